@@ -1,0 +1,24 @@
+/// A transaction: the site and the coordinator that began it, and its number there.
+///
+/// Sites are 1 to the number of sites, coordinators 1 to the number of partitions, and numbers count from 1.
+#[derive(Clone, Copy, Debug, PartialEq, Eq, PartialOrd, Ord, Hash)]
+pub struct Tid {
+    pub site: u8,
+    pub coord: u8,
+    pub seq: u64,
+}
+
+/// An update: its transaction, and the place of its operation there, from 1.
+#[derive(Clone, Copy, Debug, PartialEq, Eq, PartialOrd, Ord, Hash)]
+pub struct Tag {
+    pub tid: Tid,
+    pub place: u8,
+}
+
+/// The arbitration key of an update: the sum of its commit vector's entries, then its transaction and place.
+#[derive(Clone, Copy, Debug, PartialEq, Eq, PartialOrd, Ord, Hash)]
+pub struct Stamp {
+    pub sum: u128,
+    pub tid: Tid,
+    pub place: u8,
+}
