@@ -1,0 +1,6 @@
+//! Shapes and vectors.
+#![tactic(auto)]
+
+mod shape;
+
+pub use shape::Shape;
