@@ -46,7 +46,7 @@ conflict declared xs ys = list_any (λ a. list_any (λ b. declared a b) ys) xs
 -- ORDERED: of two strong transactions that conflict, one is before the other
 pub record IsOrdered (declared : Done → Done → Bool) (x : Execution) : Type 0 where
   pub ordered : (d e : Entry) → In d x.entries → In e x.entries → tid_eq d.tid e.tid ≡ false → d.strong ≡ true → e.strong ≡ true
-    → conflict declared d.ops e.ops ≡ true → (is_before d e.past ≡ true) ⊎ (is_before e d.past ≡ true)
+      → conflict declared d.ops e.ops ≡ true → (is_before d e.past ≡ true) ⊎ (is_before e d.past ≡ true)
 
 -- CONSISTENT, by declared conflicts and without a clause on progress
 pub record IsPor (declared : Done → Done → Bool) (x : Execution) : Type 0 where
