@@ -7,7 +7,9 @@ use us_peer_wire::Packet;
 #[derive(Drop)]
 pub enum Event {
     /// A client opens a session at a coordinator.
-    Open { coord: u8 },
+    Open {
+        coord: u8,
+    },
     /// A client's bytes come, 1 to 65,536 of them.
     Bytes {
         coord: u8,
@@ -15,7 +17,9 @@ pub enum Event {
         bytes: Bytes,
     },
     /// A packet comes.
-    Take { packet: Packet },
+    Take {
+        packet: Packet,
+    },
 }
 
 /// What a step tells of itself to whoever runs the site.

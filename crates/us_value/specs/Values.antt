@@ -4,11 +4,11 @@ use Rattle.us_kind.specs.declared.identity.Tag.{Tag}
 use Rattle.us_kind.specs.declared.identity.Stamp.{Stamp}
 use Rattle.us_kind.specs.Updates.{Update}
 use Rattle.us_plain.specs.declared.register.RegisterOp.{RegisterOp}
-use Rattle.us_plain.specs.declared.register.RegisterOp.TheVariants as register_op
+use Rattle.us_plain.specs.declared.register.RegisterOp.TheVariants as asked
 use Rattle.us_plain.specs.declared.register.RegisterEffect.{RegisterEffect}
-use Rattle.us_plain.specs.declared.register.RegisterEffect.TheVariants as register_effect
+use Rattle.us_plain.specs.declared.register.RegisterEffect.TheVariants as written
 use Rattle.us_plain.specs.declared.register.RegisterAnswer.{RegisterAnswer}
-use Rattle.us_plain.specs.declared.register.RegisterAnswer.TheVariants as register_answer
+use Rattle.us_plain.specs.declared.register.RegisterAnswer.TheVariants as told
 use Rattle.us_plain.specs.Register.{register_initial, register_updated, register_answered, register_prepared, register_value}
 use Rattle.us_value.specs.declared.operation.Kind.{Kind}
 use Rattle.us_value.specs.declared.operation.Kind.TheVariants as kind
@@ -28,23 +28,23 @@ is_update (RegisterWrite value) = true
 
 -- THE REGISTER'S SHARE
 abbrev pub register_op : Op → RegisterOp
-register_op RegisterRead = register_op.RegisterRead
-register_op (RegisterWrite value) = register_op.RegisterWrite value
+register_op RegisterRead = asked.RegisterRead
+register_op (RegisterWrite value) = asked.RegisterWrite value
 
 abbrev pub register_effect : Effect → RegisterEffect
-register_effect (effect.RegisterWrite value) = register_effect.RegisterWrite value
+register_effect (effect.RegisterWrite value) = written.RegisterWrite value
 
 abbrev pub of_register_effect : RegisterEffect → Effect
-of_register_effect (register_effect.RegisterWrite value) = effect.RegisterWrite value
+of_register_effect (written.RegisterWrite value) = effect.RegisterWrite value
 
 abbrev pub of_register_effects : Option RegisterEffect → Option Effect
 of_register_effects None = None
 of_register_effects (Some e) = Some (of_register_effect e)
 
 abbrev pub of_register_answer : RegisterAnswer → Answer
-of_register_answer register_answer.Done = answer.Done
-of_register_answer register_answer.Nothing = answer.Nothing
-of_register_answer (register_answer.Value value) = answer.Value value
+of_register_answer told.Done = answer.Done
+of_register_answer told.Nothing = answer.Nothing
+of_register_answer (told.Value value) = answer.Value value
 
 abbrev pub register_updates : List (Update Op) → List (Update RegisterOp)
 register_updates [] = []
