@@ -4,3 +4,4 @@ pub mod Sessions
 pub mod Sites
 pub mod Worlds
 pub mod Executions
+pub mod Example

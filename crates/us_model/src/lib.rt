@@ -3,8 +3,10 @@
 
 mod coordinator;
 mod event;
+mod example;
 mod partition;
 
 pub use coordinator::{Ask, Desk, Session, Told, Transaction, Waiting};
 pub use event::{ClientOut, Event, Note, Outputs};
+pub use example::worked_example;
 pub use partition::{Get, LogTx, PreparedTx};
