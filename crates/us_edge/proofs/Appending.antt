@@ -15,6 +15,10 @@ pub prepended-prepended : (left : Option (List ℕ)) (front back : List ℕ) →
 prepended-prepended None front back = refl
 prepended-prepended (Some left) front back = ap Some (sym (append_assoc front back left))
 
+pub prepended-nil : (left : Option (List ℕ)) → left ≡ prepended [] left
+prepended-nil None = refl
+prepended-nil (Some left) = refl
+
 -- nothing was written
 pub Appends-nothing : (written : Option (List ℕ)) → Appends written written []
 Appends-nothing written = sym (appended-nil written)
@@ -50,3 +54,7 @@ AppendsPrefix-then before between after text next written part = record {
   whole = ap (λ (xs : List ℕ). text ++ xs) part.whole ∙ sym (append_assoc text part.front part.rest);
   written = Appends-then before between after text part.front written part.written;
 }
+
+-- the source gave nothing
+pub Gives-nothing : (left : Option (List ℕ)) → Gives left left []
+Gives-nothing left = prepended-nil left

@@ -8,13 +8,17 @@
 mod clock;
 mod faults;
 mod links;
+mod reading;
 mod sink;
 mod source;
 mod text;
+mod writing;
 
 pub use clock::Clock;
 pub use faults::{Failed, PollFault, ReadAllFault, StartFault};
 pub use links::{LinkInput, Links, Plan};
+pub use reading::read_all;
 pub use sink::Sink;
 pub use source::Source;
 pub use text::Text;
+pub use writing::write_all;
