@@ -116,8 +116,8 @@ unfoldable pub state_for : List LogTx → Get → State
 state_for log g = after_own g.tid (after_log g.item g.snapshot (initial (kind_of g.item.space)) log) g.own
 
 -- WAKE, the partition's part: the questions whose snapshot is known are answered
-abbrev pub may_answer : Actor → Partition → Get → Bool
-may_answer me p g = at_most g.snapshot (known me p)
+abbrev pub may_answer : List ℕ → Get → Bool
+may_answer known g = at_most g.snapshot known
 
 abbrev pub version_for : Actor → List LogTx → Get → Packet
 version_for me log g =
@@ -132,9 +132,9 @@ version_for me log g =
       });
     }
 
-abbrev pub versions : Actor → Partition → List Get → List Packet
-versions me p [] = []
-versions me p (g ∷ gs) = if may_answer me p g then version_for me p.log g ∷ versions me p gs else versions me p gs
+abbrev pub versions : Actor → List ℕ → List LogTx → List Get → List Packet
+versions me known log [] = []
+versions me known log (g ∷ gs) = if may_answer known g then version_for me log g ∷ versions me known log gs else versions me known log gs
 
-abbrev pub still_parked : Actor → Partition → List Get → List Get
-still_parked me p gs = filter (λ g. not (may_answer me p g)) gs
+abbrev pub still_parked : List ℕ → List Get → List Get
+still_parked known gs = filter (λ g. not (may_answer known g)) gs

@@ -14,7 +14,7 @@ use Rattle.us_model.specs.declared.coordinator.Session.{Session}
 use Rattle.us_model.specs.declared.coordinator.Waiting.TheVariants as waits
 use Rattle.us_model.specs.declared.coordinator.Desk.{Desk}
 use Rattle.us_model.specs.State.{Partition, Coordinator, Shard, Site}
-use Rattle.us_model.specs.Partitions.{base, get, may_prepare, prepared as prepared_here, stamp_for, commit, versions, still_parked}
+use Rattle.us_model.specs.Partitions.{known, base, get, may_prepare, prepared as prepared_here, stamp_for, commit, versions, still_parked}
 use Rattle.us_model.specs.Sessions.{Acted, AllActed, each_session, bytes, version, prepared, run_session}
 
 abbrev pub no_outputs : Outputs
@@ -101,9 +101,8 @@ take_event me w (event.Take packet) = take_message me packet.from w packet.messa
 -- WAKE: waiting questions are answered, and then each session runs
 abbrev pub answers : Actor → Went → Went
 answers me w =
-    with_partition w
-    (record w.shard.partition { parked = still_parked me w.shard.partition w.shard.partition.parked })
-    (versions me w.shard.partition w.shard.partition.parked)
+    let p = w.shard.partition in
+    with_partition w (record p { parked = still_parked (known me p) p.parked }) (versions me (known me p) p.log p.parked)
 
 unfoldable pub wake : Actor → Went → Went
 wake me w = all_sessions run_session me (answers me w)
