@@ -1,0 +1,332 @@
+//! The rules of a partition.
+ghost use Rattle.std.specs.Prelude.{◌≡◌, ◌<◌, ◌++◌, ◌∷◌, [], IfOk, OnOk, Some, None, if◌then◌else◌, position};
+ghost use Rattle.us_base.specs.Vector.{zero};
+ghost use Rattle.us_model.specs.Partitions.{known, own_known, least_ts, get, next_stamp, contains_tid, stamp_for, may_prepare, prepared, is_of, commit, after_writes, after_log, after_own, state_for, may_answer, version_for, versions, still_parked};
+
+use std::alloc::Global;
+use std::marker::Model;
+use us_base::Vector;
+use us_kind::{Items, Memory, Stamp, Tag, Tid};
+use us_model::{Get, LogTx, PreparedTx};
+use us_peer_wire::{Actor, Form, Message, Packet, Version};
+use us_value::{Effect, Item, Kind, State, Write};
+
+/// The greatest number of a timestamp.
+const GREATEST: u64 = 1 << 62;
+
+/// Timestamps of a partition leave its number as the remainder by this.
+const STRIDE: u64 = 64;
+
+/// The sum under which a transaction's own effects count: above every other.
+const OWN_SUM: u128 = u128::MAX;
+
+/// A partition.
+#[derive(Drop)]
+pub struct Part {
+    clock: u64,
+    log: Vec<LogTx>,
+    prepared: Vec<PreparedTx>,
+    done: Vec<Tid>,
+    got: Vector,
+    parked: Vec<Get>,
+}
+
+impl Model for Part {
+    ghost use Rattle.us_model.specs.State.{Partition};
+
+    ghost Value = { Partition };
+
+    ghost view = { λ a. record { clock = a.clock; log = a.log.items; prepared = a.prepared.items; done = a.done.items; got = a.got; parked = a.parked.items } };
+}
+
+impl Part {
+    pub fn new(alloc: Global) -> Part
+        ensures { result ≡ record { clock = 0; log = []; prepared = []; done = []; got = zero; parked = [] } }
+    {
+        Part {
+            clock: 0,
+            log: Vec::new(alloc),
+            prepared: Vec::new(alloc),
+            done: Vec::new(alloc),
+            got: Vector::zero(),
+            parked: Vec::new(alloc),
+        }
+    }
+
+    /// Up to which timestamps the log is complete.
+    pub fn known(&self, me: &Actor) -> Vector
+        requires { me.now.site < 10 }
+        ensures { result ≡ known me.now self.now }
+    {
+        self.got
+            .with_entry(me.site, own_known_of(self.clock, self.prepared.as_slice()))
+    }
+
+    /// A question comes, and waits.
+    pub fn get(&mut self, me: &Actor, question: Get) -> Result<(), Memory>
+        requires { me.now.site < 10 }
+        ensures { OnOk result (self.new ≡ get me.now self.old question) }
+    {
+        let clock = self.clock.max(question.snapshot.get(me.site));
+        self.parked.push(question)?;
+        self.clock = clock;
+        Ok(())
+    }
+
+    /// The timestamp under which the transaction is prepared here, if it may be.
+    pub fn prepare(
+        &mut self,
+        me: &Actor,
+        tid: Tid,
+        snapshot: Vector,
+        writes: Items<Write>,
+    ) -> Result<Option<u64>, Memory>
+        requires site { me.now.site < 10 }
+        requires actor { me.now.actor < 64 }
+        ensures state { OnOk result (self.new ≡ (if may_prepare me.now self.old tid snapshot then prepared me.now self.old tid snapshot writes else self.old)) }
+        ensures stamp { IfOk result (λ r. r ≡ (if may_prepare me.now self.old tid snapshot then Some (stamp_for me.now self.old snapshot) else None)) }
+    {
+        let above = self.clock.max(snapshot.get(me.site));
+        if above >= GREATEST || contains(self.done.as_slice(), &tid) {
+            return Ok(None);
+        }
+        let ts = stamp_above(me.actor, above);
+        if ts > GREATEST {
+            return Ok(None);
+        }
+        self.done.push(tid)?;
+        self.prepared.push(PreparedTx {
+            tid,
+            ts,
+            snapshot,
+            writes,
+        })?;
+        self.clock = ts;
+        Ok(Some(ts))
+    }
+
+    /// A prepared transaction moves to the log.
+    pub fn commit(&mut self, me: &Actor, tid: &Tid, vector: Vector) -> Result<(), Memory>
+        requires { me.now.site < 10 }
+        ensures { OnOk result (self.new ≡ commit me.now self.old tid.now vector) }
+    {
+        let Some(place) = place_of(self.prepared.as_slice(), tid) else {
+            return Ok(());
+        };
+        let own = vector.get(me.site);
+        if self.prepared[place].ts > own {
+            return Ok(());
+        }
+        let was = self.prepared.remove(place);
+        self.log.push(LogTx {
+            tid: was.tid,
+            strong: false,
+            vector,
+            writes: was.writes,
+        })?;
+        self.clock = self.clock.max(own);
+        Ok(())
+    }
+
+    /// The questions whose snapshot is known are answered, in order of coming, and leave.
+    pub fn answer_parked(
+        &mut self,
+        alloc: Global,
+        me: &Actor,
+        packets: &mut Items<Packet>,
+    ) -> Result<(), Memory>
+        requires { me.now.site < 10 }
+        ensures state { OnOk result (self.new ≡ record self.old { parked = still_parked (known me.now self.old) self.old.parked }) }
+        ensures packets { OnOk result (packets.new ≡ packets.old ++ versions me.now (known me.now self.old) self.old.log self.old.parked) }
+    {
+        let known = self.known(me);
+        push_versions(
+            alloc,
+            me,
+            &known,
+            self.log.as_slice(),
+            self.parked.as_slice(),
+            packets,
+        )?;
+        keep_unknown(&mut self.parked, &known);
+        Ok(())
+    }
+}
+
+/// The versions for the questions whose snapshot is known.
+fn push_versions(
+    alloc: Global,
+    me: &Actor,
+    known: &Vector,
+    log: &[LogTx],
+    questions: &[Get],
+    packets: &mut Items<Packet>,
+) -> Result<(), Memory>
+    ensures { OnOk result (packets.new ≡ packets.old ++ versions me.now known.now log.now questions.now) }
+{
+    for question in questions {
+        if question.snapshot.at_most(known) {
+            packets.push(version_of(alloc, me, log, question)?)?;
+        }
+    }
+    Ok(())
+}
+
+/// Only the questions stay whose snapshot isn't known.
+fn keep_unknown(questions: &mut Vec<Get>, known: &Vector)
+    ensures { questions.new.items ≡ still_parked known.now questions.old.items }
+{
+    questions.retain(|question| !question.snapshot.at_most(known));
+}
+
+/// The version that a question asks for.
+fn version_of(alloc: Global, me: &Actor, log: &[LogTx], question: &Get) -> Result<Packet, Memory>
+    ensures { IfOk result (λ packet. packet ≡ version_for me.now log.now question.now) }
+{
+    let state = state_of(alloc, log, question)?;
+    let tag = Tag {
+        tid: question.tid,
+        place: question.place,
+    };
+    let version = Version {
+        tid: question.tid,
+        place: question.place,
+        at: question.at,
+        form: Form::Answered {
+            answer: us_value::answer(alloc, &state, &question.op)?,
+            effect: us_value::prepare(alloc, &state, &question.op, tag)?,
+        },
+    };
+    Ok(Packet {
+        from: *me,
+        to: Actor {
+            site: me.site,
+            actor: question.from,
+        },
+        message: Message::Version { version },
+    })
+}
+
+/// The state of the question's item at its snapshot, and the transaction's own effects on top.
+#[tactic(auto, unfolding(us_model::specs::Partitions::state_for))]
+fn state_of(alloc: Global, log: &[LogTx], question: &Get) -> Result<State, Memory>
+    ensures { IfOk result (λ state. state ≡ state_for log.now question.now) }
+{
+    let mut state = us_value::initial(alloc, Kind::Register)?;
+    apply_log(alloc, &mut state, &question.item, &question.snapshot, log)?;
+    apply_own(alloc, &mut state, question.tid, question.own.as_slice())?;
+    Ok(state)
+}
+
+/// The log's writes on the item, by transactions with vectors at most the snapshot.
+fn apply_log(
+    alloc: Global,
+    state: &mut State,
+    item: &Item,
+    snapshot: &Vector,
+    log: &[LogTx],
+) -> Result<(), Memory>
+    ensures { OnOk result (state.new ≡ after_log item.now snapshot.now state.old log.now) }
+{
+    for transaction in log {
+        if transaction.vector.at_most(snapshot) {
+            apply_writes(
+                alloc,
+                state,
+                item,
+                transaction.vector.sum(),
+                transaction.tid,
+                transaction.writes.as_slice(),
+            )?;
+        }
+    }
+    Ok(())
+}
+
+/// A transaction's writes on the item.
+fn apply_writes(
+    alloc: Global,
+    state: &mut State,
+    item: &Item,
+    sum: u128,
+    tid: Tid,
+    writes: &[Write],
+) -> Result<(), Memory>
+    ensures { OnOk result (state.new ≡ after_writes item.now sum tid state.old writes.now) }
+{
+    for write in writes {
+        if write.item.same(item) {
+            let stamp = Stamp {
+                sum,
+                tid,
+                place: write.place,
+            };
+            us_value::apply(alloc, state, &write.effect, stamp)?;
+        }
+    }
+    Ok(())
+}
+
+/// The transaction's own effects, above every other.
+fn apply_own(
+    alloc: Global,
+    state: &mut State,
+    tid: Tid,
+    own: &[(u8, Effect)],
+) -> Result<(), Memory>
+    ensures { OnOk result (state.new ≡ after_own tid state.old own.now) }
+{
+    for (place, effect) in own {
+        let stamp = Stamp {
+            sum: OWN_SUM,
+            tid,
+            place: *place,
+        };
+        us_value::apply(alloc, state, effect, stamp)?;
+    }
+    Ok(())
+}
+
+/// The known timestamp of the own site.
+#[tactic(auto, unfolding(us_model::specs::Partitions::own_known))]
+fn own_known_of(clock: u64, transactions: &[PreparedTx]) -> u64
+    ensures { result ≡ own_known clock transactions.now }
+{
+    match transactions.split_first() {
+        None => clock,
+        Some((first, others)) => least_of(first.ts, others).saturating_sub(1),
+    }
+}
+
+/// The least timestamp of these, or `start` where it is less.
+fn least_of(start: u64, transactions: &[PreparedTx]) -> u64
+    ensures { result ≡ least_ts start transactions.now }
+{
+    let mut least = start;
+    for transaction in transactions.iter().rev() {
+        least = least.min(transaction.ts);
+    }
+    least
+}
+
+fn contains(tids: &[Tid], tid: &Tid) -> bool
+    ensures { result ≡ contains_tid tid.now tids.now }
+{
+    tids.iter().any(|t| t.same(tid))
+}
+
+fn place_of(transactions: &[PreparedTx], tid: &Tid) -> Option<usize>
+    ensures { result ≡ position (is_of tid.now) transactions.now }
+{
+    transactions.iter().position(|t| t.tid.same(tid))
+}
+
+/// The least number above `n` that leaves the actor's remainder.
+#[tactic(auto, unfolding(us_model::specs::Partitions::next_stamp))]
+fn stamp_above(actor: u8, n: u64) -> u64
+    requires actor { actor < 64 }
+    requires room { n < 2 ^ 62 }
+    ensures { result ≡ next_stamp actor n }
+{
+    n + 1 + (u64::from(actor) + STRIDE - (n + 1) % STRIDE) % STRIDE
+}
