@@ -1,4 +1,5 @@
 ghost use Rattle.std.specs.Prelude.{◌≡◌, IfOk, length};
+ghost use Rattle.us_kind.specs.Words.{bytes_eq};
 
 use crate::Memory;
 use std::alloc::Global;
@@ -52,6 +53,13 @@ impl Bytes {
         ensures { result ≡ length self.now }
     {
         self.items.len()
+    }
+
+    /// The two are the same bytes.
+    pub fn same(&self, other: &Bytes) -> bool
+        ensures { result ≡ bytes_eq self.now other.now }
+    {
+        self.as_slice() == other.as_slice()
     }
 
     pub fn copy(&self) -> Result<Bytes, Memory>
