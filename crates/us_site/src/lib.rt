@@ -1,5 +1,0 @@
-//! One site: one step of it is the machine's rule.
-#![tactic(auto)]
-
-mod partition;
-mod session;
