@@ -1,0 +1,4 @@
+pub mod Ledgers
+pub mod Partition
+pub mod Facts
+pub mod Sessions
