@@ -2,3 +2,4 @@ pub mod Ledgers
 pub mod Partition
 pub mod Facts
 pub mod Sessions
+pub mod Runs
