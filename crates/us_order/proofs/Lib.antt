@@ -6,3 +6,4 @@ pub mod Runs
 pub mod Each
 pub mod Moves
 pub mod World
+pub mod Pasts
