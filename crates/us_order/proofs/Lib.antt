@@ -7,3 +7,5 @@ pub mod Each
 pub mod Moves
 pub mod World
 pub mod Pasts
+pub mod Order
+pub mod Entries
