@@ -9,3 +9,4 @@ pub mod World
 pub mod Pasts
 pub mod Order
 pub mod Entries
+pub mod Closed
