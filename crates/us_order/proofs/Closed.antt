@@ -4,21 +4,18 @@ use Rattle.std.specs.Prelude.{nat_lt}
 use Rattle.std.proofs.lemmas.Bool.Decides.{nat_tests}
 use Rattle.us_kind.specs.Words.{In, lex, tid_less}
 use Rattle.us_kind.specs.declared.identity.Tid.{Tid}
-use Rattle.us_base.specs.Vector.{entry, at_most, sum_of}
+use Rattle.us_base.specs.Vector.{at_most, sum_of}
 use Rattle.us_base.proofs.Vectors.{at_most-true, at_most-trans, sum-at_most, sum-below}
-use Rattle.us_exec.specs.declared.SessionName.{SessionName}
-use Rattle.us_exec.specs.declared.Count.{Count}
 use Rattle.us_exec.specs.declared.Done.{Done}
 use Rattle.us_exec.specs.declared.Entry.{Entry}
 use Rattle.us_exec.specs.declared.Loose.{Loose}
-use Rattle.us_exec.specs.declared.Execution.{Execution}
 use Rattle.us_exec.specs.Past.{is_before}
 use Rattle.us_exec.specs.Consistency.{IsClosedPast, StandsBefore, IsClosed, IsOrdered}
 use Rattle.us_model.specs.State.{Partition}
 use Rattle.us_model.specs.Executions.{Begun, Committed, History, is_stamped, past_of, ties, precedes, arbitrated, entry_of, entries_of, is_committed, loose_one, loose_of, execution_by}
 use Rattle.us_order.proofs.Ledgers.{Ledger}
 use Rattle.us_order.proofs.Facts.{PartitionFacts, SharedFacts, StandsEarlier}
-use Rattle.us_order.proofs.Pasts.{Leads, BeforeBy, leads_below, not_own, stamped-has, before-by, before-from}
+use Rattle.us_order.proofs.Pasts.{BeforeBy, leads_below, not_own, stamped-has, before-by, before-from}
 use Rattle.us_order.proofs.Entries.{in_arbitrated, arbitrated_holds, arbitrated-sorted, precedes_stands, stands_arbitrated}
 
 -- WHERE ENTRIES COME FROM
@@ -85,17 +82,17 @@ pub seq_order : (p : Partition) (l : Ledger) → PartitionFacts p l → SharedFa
 seq_order p l part all c d i j e le = ⊎_elim
     (λ a. inr a)
     (λ b. ⊎_elim
-        (λ a. absurd (let less = all.told.numbers d c j i (sym e) a in omega arith))
-        (λ s. inl (same_seq p l part all c d i j s))
-        b)
+    (λ a. absurd (let less = all.told.numbers d c j i (sym e) a in omega arith))
+    (λ s. inl (same_seq p l part all c d i j s))
+    b)
     (compare c.begun.tid.seq d.begun.tid.seq)
 
 -- vectors of a session ascend
-session_below : (p : Partition) (l : Ledger) → PartitionFacts p l → SharedFacts l → (c d : Committed) → In c l.history.committed → In d l.history.committed → c.begun.session ≡ d.begun.session → c.number ≤ d.number → (v : List ℕ) → at_most v c.vector ≡ true → at_most v d.vector ≡ true
+pub session_below : (p : Partition) (l : Ledger) → PartitionFacts p l → SharedFacts l → (c d : Committed) → In c l.history.committed → In d l.history.committed → c.begun.session ≡ d.begun.session → c.number ≤ d.number → (v : List ℕ) → at_most v c.vector ≡ true → at_most v d.vector ≡ true
 session_below p l part all c d i j e le v h = ⊎_elim
     (λ s. subst (λ (x : Committed). at_most v x.vector ≡ true) s h)
     (λ less. at_most-trans v c.vector d.vector h
-        (at_most-trans c.vector d.begun.snapshot d.vector (all.told.order c d.begun i (part.decided d j).begun e less) (part.decided d j).grows))
+    (at_most-trans c.vector d.begun.snapshot d.vector (all.told.order c d.begun i (part.decided d j).begun e less) (part.decided d j).grows))
     (seq_order p l part all c d i j e le)
 
 -- WHAT IS BEFORE WHAT IS BEFORE
@@ -103,10 +100,10 @@ pub before_further : (p : Partition) (l : Ledger) → PartitionFacts p l → Sha
 before_further p l part all c d t i j k g h = ⊎_elim
     (λ a. let less = all.told.numbers g.by d g.here j a.0 a.1 in let m = g.number in let n = h.number in record { by = h.by; here = h.here; session = h.session ∙ sym a.0 ∙ g.session; number = omega arith; leads_to = h.leads_to })
     (λ b.
-        let below = at_most-trans g.by.vector h.by.vector t.snapshot
-            (session_below p l part all d h.by j h.here (sym h.session) h.number g.by.vector (at_most-trans g.by.vector d.begun.snapshot d.vector b.1 (part.decided d j).grows))
-            (leads_below p l part all h.by t h.here k h.leads_to) in
-        record { by = g.by; here = g.here; session = g.session; number = g.number; leads_to = record { other = not_own p l part all g.by t g.here k b.0 below; by = inr (b.0, below) } })
+    let below = at_most-trans g.by.vector h.by.vector t.snapshot
+    (session_below p l part all d h.by j h.here (sym h.session) h.number g.by.vector (at_most-trans g.by.vector d.begun.snapshot d.vector b.1 (part.decided d j).grows))
+    (leads_below p l part all h.by t h.here k h.leads_to) in
+    record { by = g.by; here = g.here; session = g.session; number = g.number; leads_to = record { other = not_own p l part all g.by t g.here k b.0 below; by = inr (b.0, below) } })
     g.leads_to.by
 
 -- an earlier one of the session is before

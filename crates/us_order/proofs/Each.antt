@@ -1,8 +1,8 @@
 -- Every session in turn.
-use Rattle.std.proofs.Common.{◌≡◌, ⊎_elim, ℕ, suc, ◌+◌, ◌<◌, ◌≤◌, List, [], ◌∷◌, length, refl, ap, ◌∙◌, subst, arith}
+use Rattle.std.proofs.Common.{◌≡◌, ⊎_elim, ℕ, suc, ◌+◌, ◌<◌, ◌≤◌, List, [], ◌∷◌, length, refl, ap, ◌∙◌, arith}
 use Rattle.std.specs.Prelude.{Option}
 use Rattle.us_kind.specs.Words.{In}
-use Rattle.us_kind.proofs.ListLemmas.{in_grown, GoesOn, goes_nowhere, goes_further}
+use Rattle.us_kind.proofs.ListLemmas.{in_grown, GoesOn}
 use Rattle.us_exec.specs.declared.SessionName.{SessionName}
 use Rattle.us_peer_wire.specs.declared.message.Message.{Message}
 use Rattle.us_model.specs.declared.coordinator.Transaction.{Transaction}
@@ -12,7 +12,7 @@ use Rattle.us_model.specs.declared.coordinator.Desk.{Desk}
 use Rattle.us_model.specs.State.{Partition}
 use Rattle.us_model.specs.Sessions.{Acted, AllActed, each_session}
 use Rattle.us_model.specs.Executions.{Begun}
-use Rattle.us_order.proofs.Ledgers.{name, Ledger, Stands}
+use Rattle.us_order.proofs.Ledgers.{Ledger, Stands}
 use Rattle.us_order.proofs.Facts.{PartitionFacts, SharedFacts, SessionFacts, Grows, session_frame}
 use Rattle.us_order.proofs.Sessions.{Facts, Kept}
 

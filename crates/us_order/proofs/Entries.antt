@@ -1,10 +1,9 @@
 -- The committed transactions in arbitration order.
-use Rattle.std.proofs.Common.{◌≡◌, ◌⊎◌, inl, inr, ⊎_elim, ℕ, ◌<◌, ◌≤◌, List, [], ◌∷◌, ◌++◌, Bool, true, false, refl, sym, ap, ◌∙◌, subst, arith, cond, true≢false}
-use Rattle.std.proofs.lemmas.Bool.Decides.{nat_tests}
-use Rattle.us_kind.specs.Words.{In, lex, tid_less}
-use Rattle.us_kind.proofs.TestLemmas.{lex-self, lex-apart, lex-not, tid_less-apart, tid_less-not}
+use Rattle.std.proofs.Common.{◌≡◌, ◌⊎◌, inl, inr, ⊎_elim, List, [], ◌∷◌, Bool, true, false, refl, sym, ap, ◌∙◌, subst, cond, true≢false}
+use Rattle.us_kind.specs.Words.{In}
+use Rattle.us_kind.proofs.TestLemmas.{lex-apart, lex-not, tid_less-apart, tid_less-not}
 use Rattle.us_base.specs.Vector.{sum_of}
-use Rattle.us_model.specs.Executions.{Committed, is_stamped, ties, precedes, placed, arbitrated}
+use Rattle.us_model.specs.Executions.{Committed, ties, precedes, placed, arbitrated}
 use Rattle.us_order.proofs.Facts.{StandsEarlier}
 
 -- THE SAME TRANSACTIONS

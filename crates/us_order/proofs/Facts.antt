@@ -1,9 +1,9 @@
 -- The facts that every event keeps.
-use Rattle.std.proofs.Common.{◌≡◌, ◌⊎◌, inl, inr, ⊎_elim, ℕ, ◌+◌, ◌<◌, ◌≤◌, ◌^◌, List, [], ◌∷◌, ◌++◌, length, length-append, append-nil, append_assoc, Bool, true, false, refl, sym, ap, ◌∙◌, subst, arith, cond, true≢false}
-use Rattle.std.specs.Prelude.{Some, None, Option, map}
+use Rattle.std.proofs.Common.{◌≡◌, ◌⊎◌, inl, inr, ⊎_elim, ℕ, ◌+◌, ◌<◌, ◌≤◌, ◌^◌, List, [], ◌∷◌, ◌++◌, length, append-nil, append_assoc, Bool, true, false, refl, sym, ap, ◌∙◌, subst, arith, cond, true≢false}
+use Rattle.std.specs.Prelude.{Some, None, Option}
 use Rattle.us_kind.specs.Words.{In, tid_eq}
 use Rattle.us_kind.specs.declared.identity.Tid.{Tid}
-use Rattle.us_kind.proofs.ListLemmas.{in_either, in_append, in_split, in_later, in_grown, GoesOn, goes_nowhere, goes_further}
+use Rattle.us_kind.proofs.ListLemmas.{in_append, in_split, in_later, in_grown, GoesOn, goes_nowhere, goes_further}
 use Rattle.us_kind.proofs.TestLemmas.{tid_eq-true, tid_eq-same}
 use Rattle.us_base.specs.Vector.{entry, at_most}
 use Rattle.us_value.specs.declared.item.Item.{Item}
@@ -12,13 +12,10 @@ use Rattle.us_value.specs.declared.operation.Op.{Op}
 use Rattle.us_value.specs.declared.operation.Op.TheVariants.{RegisterRead, RegisterWrite}
 use Rattle.us_value.specs.declared.operation.Effect.{Effect}
 use Rattle.us_value.specs.declared.operation.Effect.TheVariants as effect
-use Rattle.us_value.specs.declared.operation.Answer.{Answer}
 use Rattle.us_value.specs.declared.operation.State.{State}
-use Rattle.us_value.specs.Items.{item_eq}
 use Rattle.us_value.specs.Values.{initial, answered}
 use Rattle.us_exec.specs.declared.SessionName.{SessionName}
 use Rattle.us_exec.specs.declared.Done.{Done}
-use Rattle.us_exec.specs.Past.{session_eq}
 use Rattle.us_peer_wire.specs.declared.message.Message.{Message}
 use Rattle.us_peer_wire.specs.declared.message.Message.TheVariants as message
 use Rattle.us_peer_wire.specs.declared.message.Form.{Form}
@@ -27,7 +24,6 @@ use Rattle.us_model.specs.declared.partition.LogTx.{LogTx}
 use Rattle.us_model.specs.declared.partition.PreparedTx.{PreparedTx}
 use Rattle.us_model.specs.declared.partition.Get.{Get}
 use Rattle.us_model.specs.declared.coordinator.Transaction.{Transaction}
-use Rattle.us_model.specs.declared.coordinator.PreparedAt.{PreparedAt}
 use Rattle.us_model.specs.declared.coordinator.Waiting.{Waiting}
 use Rattle.us_model.specs.declared.coordinator.Waiting.TheVariants as waits
 use Rattle.us_model.specs.State.{Partition}
@@ -35,7 +31,7 @@ use Rattle.us_model.specs.Partitions.{known, after_log, after_own, kind_of}
 use Rattle.us_model.specs.Sessions.{own_effects, write_of}
 use Rattle.us_model.specs.Executions.{Begun, Performed, Committed, History, ops_of, committed_in}
 use Rattle.us_order.proofs.Ledgers.{me, name, Ledger}
-use Rattle.us_order.proofs.Partition.{PartitionOk, Later}
+use Rattle.us_order.proofs.Partition.{PartitionOk}
 
 -- THE WRITES OF A TRANSACTION'S OPERATIONS
 abbrev pub effect_for : Op → Option Effect

@@ -1,6 +1,5 @@
 -- What only grows: how many transactions were begun, the messages that were sent, and what was told.
-use Rattle.std.proofs.Common.{◌≡◌, ℕ, ◌+◌, List, [], ◌∷◌, ◌++◌, Bool, true, false, refl, sym, ap, ◌∙◌, subst, append-nil, append_assoc}
-use Rattle.std.specs.Prelude.{Some, None}
+use Rattle.std.proofs.Common.{◌≡◌, ℕ, List, [], ◌∷◌, ◌++◌, false, refl, sym, ap, ◌∙◌, append_assoc}
 use Rattle.std.proofs.lemmas.Bool.{cond_both}
 use Rattle.us_client_wire.specs.declared.frame.Reply.{Reply}
 use Rattle.us_exec.specs.declared.SessionName.{SessionName}

@@ -10,3 +10,5 @@ pub mod Pasts
 pub mod Order
 pub mod Entries
 pub mod Closed
+pub mod Visible
+pub mod Por

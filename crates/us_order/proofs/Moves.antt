@@ -1,6 +1,6 @@
 -- What each step of the partition keeps.
-use Rattle.std.proofs.Common.{◌≡◌, ◌⊎◌, inl, inr, ⊎_elim, ℕ, zero, suc, ◌<◌, ◌≤◌, ◌^◌, List, [], ◌∷◌, ◌++◌, Bool, true, false, ◌||◌, refl, sym, ap, ◌∙◌, subst, arith, cond, true≢false}
-use Rattle.std.specs.Prelude.{Some, None, Option, not, slice_get}
+use Rattle.std.proofs.Common.{◌≡◌, ◌⊎◌, inl, inr, ⊎_elim, ℕ, zero, suc, ◌≤◌, ◌^◌, List, [], ◌∷◌, ◌++◌, Bool, true, false, ◌||◌, refl, sym, ap, ◌∙◌, subst, arith, cond, true≢false}
+use Rattle.std.specs.Prelude.{Some, Option, slice_get}
 use Rattle.us_kind.specs.Words.{In, tid_eq}
 use Rattle.us_kind.specs.declared.identity.Tid.{Tid}
 use Rattle.us_kind.specs.declared.identity.Tag.{Tag}
@@ -17,7 +17,6 @@ use Rattle.us_value.specs.declared.operation.State.{State}
 use Rattle.us_value.specs.declared.operation.State.TheVariants as state
 use Rattle.us_value.specs.Values.{initial, answered, prepared as prepared_effect}
 use Rattle.us_exec.specs.declared.Done.{Done}
-use Rattle.us_peer_wire.specs.declared.message.Packet.{Packet}
 use Rattle.us_peer_wire.specs.declared.message.Message.{Message}
 use Rattle.us_peer_wire.specs.declared.message.Message.TheVariants as message
 use Rattle.us_peer_wire.specs.declared.message.Form.TheVariants as form
@@ -27,12 +26,12 @@ use Rattle.us_model.specs.declared.partition.Get.{Get}
 use Rattle.us_model.specs.declared.coordinator.Transaction.{Transaction}
 use Rattle.us_model.specs.declared.coordinator.Waiting.{Waiting}
 use Rattle.us_model.specs.State.{Partition}
-use Rattle.us_model.specs.Partitions.{known, get, contains_tid, prepared, timestamp_for, committed, is_of, after_own, after_log, kind_of, state_for, may_answer, versions, version_for, still_parked}
+use Rattle.us_model.specs.Partitions.{known, get, contains_tid, prepared, timestamp_for, committed, is_of, after_own, kind_of, state_for, may_answer, versions, version_for, still_parked}
 use Rattle.us_model.specs.Sessions.{own_effects}
-use Rattle.us_model.specs.Executions.{Begun, Committed, ops_of}
+use Rattle.us_model.specs.Executions.{Committed, ops_of}
 use Rattle.us_order.proofs.Ledgers.{me, Ledger, messages_of, with_messages}
 use Rattle.us_order.proofs.Partition.{PartitionOk, Later, later_same, horizon, read_later, get_keeps, get_later, prepared_keeps, prepared_later, committed_keeps, committed_later, removed_in, in_removed, next_timestamp-above}
-use Rattle.us_order.proofs.Facts.{effect_for, writes_of, HasWrites, state_at, AllTrue, AnswersGet, StillPrepared, IsDecided, DecidedAt, IsTrue, PreparedFacts, LogFacts, InLog, PartitionFacts, SharedFacts, SameKey, SameKey-sym, once_push, waits-later, RunningFacts, SessionFacts}
+use Rattle.us_order.proofs.Facts.{effect_for, writes_of, HasWrites, state_at, AllTrue, StillPrepared, IsDecided, DecidedAt, IsTrue, PreparedFacts, LogFacts, InLog, PartitionFacts, SharedFacts, SameKey, SameKey-sym, once_push, waits-later, RunningFacts, SessionFacts}
 
 pub known-later : (p p' : Partition) (v : List ℕ) → Later p p' → at_most v (known me p) ≡ true → at_most v (known me p') ≡ true
 known-later p p' v l h = at_most-from v (known me p') at

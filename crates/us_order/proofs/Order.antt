@@ -1,9 +1,8 @@
 -- The order of stamps, and the greatest of them: what a register keeps.
-use Rattle.std.proofs.Common.{◌≡◌, ◌⊎◌, inl, inr, ⊎_elim, ℕ, ◌<◌, List, [], ◌∷◌, Bool, true, false, refl, sym, ap, ◌∙◌, subst, arith, cond, true≢false}
+use Rattle.std.proofs.Common.{◌≡◌, ◌⊎◌, inl, inr, ⊎_elim, ℕ, List, [], ◌∷◌, Bool, true, false, refl, sym, ap, ◌∙◌, subst, cond, true≢false}
 use Rattle.std.specs.Prelude.{Some, None, Option}
-use Rattle.us_kind.specs.Words.{In, bytes_less, lex, stamp_lex}
+use Rattle.us_kind.specs.Words.{In}
 use Rattle.us_kind.specs.declared.identity.Tid.{Tid}
-use Rattle.us_kind.specs.declared.identity.Stamp.{Stamp}
 use Rattle.us_kind.proofs.TestLemmas.{lex-trans, lex-one, lex-self, bytes_less-one, bytes_less-trans, bytes_less-self}
 use Rattle.us_base.specs.Vector.{at_most, sum_of}
 use Rattle.us_plain.specs.declared.register.Kept.{Kept}

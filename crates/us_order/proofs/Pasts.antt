@@ -5,7 +5,6 @@ use Rattle.std.specs.List.{list_any}
 use Rattle.std.proofs.lemmas.Bool.{and_parts, and_from, eqb-true, leb-true, le-leb, not-true, lt-ltb}
 use Rattle.std.proofs.lemmas.Bool.Decides.{nat_tests}
 use Rattle.us_kind.specs.Words.{In, tid_eq}
-use Rattle.us_kind.specs.declared.identity.Tid.{Tid}
 use Rattle.us_kind.proofs.TestLemmas.{tid_eq-true, tid_eq-same}
 use Rattle.us_base.specs.Vector.{entry, at_most}
 use Rattle.us_base.proofs.Vectors.{at_most-true, at_most-trans}
@@ -14,15 +13,13 @@ use Rattle.us_value.specs.declared.operation.Op.TheVariants.{RegisterRead, Regis
 use Rattle.us_value.specs.Values.{is_update}
 use Rattle.us_exec.specs.declared.SessionName.{SessionName}
 use Rattle.us_exec.specs.declared.Done.{Done}
-use Rattle.us_exec.specs.declared.Count.{Count}
-use Rattle.us_exec.specs.declared.Entry.{Entry}
 use Rattle.us_exec.specs.Past.{session_eq, count_in, is_before}
 use Rattle.us_model.specs.State.{Partition}
 use Rattle.us_model.specs.Sessions.{write_of}
-use Rattle.us_model.specs.Executions.{Begun, Committed, is_stamped, leads, reaches_within, reaches, count_from, session_less, with_session, sessions_of, counted, counts, past_of, entry_of}
+use Rattle.us_model.specs.Executions.{Begun, Committed, is_stamped, leads, reaches_within, reaches, count_from, session_less, with_session, sessions_of, counts, past_of, entry_of}
 use Rattle.us_order.specs.Pasts.{direct_count}
 use Rattle.us_order.proofs.Ledgers.{Ledger}
-use Rattle.us_order.proofs.Facts.{effect_for, writes_of, HasWrites, DecidedFacts, PartitionFacts, SharedFacts}
+use Rattle.us_order.proofs.Facts.{effect_for, writes_of, HasWrites, PartitionFacts, SharedFacts}
 
 -- TESTS
 pub session_eq-true : (a b : SessionName) → session_eq a b ≡ true → a ≡ b
@@ -325,3 +322,32 @@ before-from cs c t i h =
     let k = count_by-holds (λ x. reaches cs x t) s cs h.by h.here h.session (reaches-from (length cs) cs h.by t (leads-from h.by t h.leads_to)) in
     let n = h.number in
     le-leb c.number (count_in s (past_of cs t)) (omega arith)
+
+-- a session without committed transactions counts none
+no_count : (s : SessionName) (all : List Committed) (t : Begun) (cs : List Committed) → (In s (sessions_of cs) → ⊥) → count_from s all t cs ≡ 0
+no_count s all t [] h = refl
+no_count s all t (c ∷ cs) h = on (session_eq c.begun.session s) refl (reaches all c t) (no_count s all t cs (λ i. h (in_with_old s c.begun.session (sessions_of cs) i)))
+  where
+    on : (b : Bool) → session_eq c.begun.session s ≡ b → (r : Bool) → count_from s all t cs ≡ 0 → cond (b && r) (max c.number (count_from s all t cs)) (count_from s all t cs) ≡ 0
+    on true e r again = absurd (h (subst (λ x. In x (sessions_of (c ∷ cs))) (session_eq-true c.begun.session s e) (in_with c.begun.session (sessions_of cs))))
+    on false e r again = again
+
+session_here : (s : SessionName) (ss : List SessionName) → In s ss ⊎ (In s ss → ⊥)
+session_here s [] = inr (λ i. i)
+session_here s (r ∷ rs) = on (session_eq r s) refl (session_here s rs)
+  where
+    on : (b : Bool) → session_eq r s ≡ b → In s rs ⊎ (In s rs → ⊥) → In s (r ∷ rs) ⊎ (In s (r ∷ rs) → ⊥)
+    on true e h = inl (inl (session_eq-true r s e))
+    on false e (inl i) = inl (inr i)
+    on false e (inr h) = inr (λ i. ⊎_elim (λ k. true≢false (sym (ap (λ x. session_eq x s) k ∙ session_eq-same s) ∙ e)) h i)
+
+-- a past's count of a session is the direct one
+pub past-counts : (p : Partition) (l : Ledger) → PartitionFacts p l → SharedFacts l → (s : SessionName) (t : Begun) → In t l.history.begun → count_in s (past_of l.history.committed t) ≡ direct_count s t l.history.committed
+past-counts p l part all s t j =
+    let cs = l.history.committed in
+    let most = counts-most cs t s (sessions_of cs) in
+    let same = count_direct p l part all s t j in
+    ⊎_elim
+    (λ i. let least = counts-least cs t s (sessions_of cs) i in omega arith)
+    (λ h. let none = no_count s cs t cs h in omega arith)
+    (session_here s (sessions_of cs))

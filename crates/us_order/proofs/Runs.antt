@@ -1,5 +1,5 @@
 -- What requests, frames and packets keep at a session.
-use Rattle.std.proofs.Common.{◌≡◌, inl, inr, ℕ, ◌+◌, List, [], ◌∷◌, ◌++◌, Bool, true, false, ◌||◌, ◌&&◌, length, refl, sym, ap, ◌∙◌, subst, arith, max, true≢false}
+use Rattle.std.proofs.Common.{◌≡◌, ℕ, List, [], ◌∷◌, ◌++◌, Bool, true, ◌&&◌, length, refl, sym, ap, ◌∙◌, subst, arith, max, true≢false}
 use Rattle.std.specs.Prelude.{Some, None, Option, ◌==◌, not, nat_lt}
 use Rattle.std.proofs.lemmas.Bool.{cond_both, and_parts, eqb-true}
 use Rattle.std.specs.List.{list_any}
@@ -14,12 +14,11 @@ use Rattle.us_base.specs.Vector.{with_entry}
 use Rattle.us_value.specs.declared.item.Item.{Item}
 use Rattle.us_value.specs.declared.item.Write.{Write}
 use Rattle.us_value.specs.declared.operation.Op.{Op}
-use Rattle.us_wire.specs.Frames.{Reader, Frames, frames_of, fed}
+use Rattle.us_wire.specs.Frames.{frames_of, fed}
 use Rattle.us_client_wire.specs.declared.frame.Request.{Request}
 use Rattle.us_client_wire.specs.declared.frame.Request.TheVariants.{Begin, Perform, CommitCausal}
 use Rattle.us_client_wire.specs.Requests.{request_of}
 use Rattle.us_client_wire.specs.declared.frame.Reply.TheVariants as reply
-use Rattle.us_peer_wire.specs.declared.message.Message.{Message}
 use Rattle.us_peer_wire.specs.declared.message.Message.TheVariants as message
 use Rattle.us_peer_wire.specs.declared.message.Version.{Version}
 use Rattle.us_peer_wire.specs.declared.message.Form.{Form}
@@ -33,9 +32,9 @@ use Rattle.us_model.specs.declared.coordinator.Waiting.TheVariants as waits
 use Rattle.us_model.specs.declared.coordinator.Session.{Session}
 use Rattle.us_model.specs.declared.coordinator.Desk.{Desk}
 use Rattle.us_model.specs.State.{Partition}
-use Rattle.us_model.specs.Sessions.{Acted, stays, with_client, with_note, reply_out, session_name, refused, committing, request_in, request, is_nothing, run_asks, run_session, closed, left, closes_in, closes, counted, malformed, framed_in, framed, take_frames, take_stream, read_on, bytes, recorded_by, is_awaited, version_in, version, without, greatest, told_all, prepared_in, prepared, sent_out, decided}
-use Rattle.us_order.proofs.Ledgers.{me, name, Ledger, with_told, Stands, stands_note, stands_client}
-use Rattle.us_order.proofs.Facts.{HasWrites, PartitionFacts, SharedFacts, Waits, waits-later, RunningFacts, SessionFacts, Grows, grows_nowhere}
+use Rattle.us_model.specs.Sessions.{Acted, stays, with_client, with_note, reply_out, session_name, refused, committing, request_in, request, is_nothing, run_asks, run_session, closed, left, closes_in, counted, malformed, framed_in, framed, take_frames, bytes, recorded_by, is_awaited, version_in, version, without, told_all, prepared_in, prepared, decided}
+use Rattle.us_order.proofs.Ledgers.{Ledger, with_told, Stands, stands_note, stands_client}
+use Rattle.us_order.proofs.Facts.{HasWrites, SharedFacts, Waits, waits-later, RunningFacts, SessionFacts, Grows}
 use Rattle.us_order.proofs.Sessions.{Facts, Kept, kept_further, kept_same, part_grows, performed_keeps, sent_out_keeps, begun_keeps, ends_keeps, decided_keeps, recorded_keeps}
 
 pub stays_keeps : (b : Ledger) (p : Partition) (l : Ledger) (d : Desk) (s : Session) → Stands b p l d → Facts p l s → Kept b p l s.number (stays d s)
@@ -232,9 +231,9 @@ prepared_in_keeps b p part tid ts l d s (waits.Prepared at missing so_far) (Some
     let w : Waits l tx (waits.Prepared at missing so_far) = subst (Waits l tx) e (h.mine.runs tx f).waiting in
     cond_both (tid_eq tx.tid tid && list_any (λ n. n == part) missing) _ _ (Kept b p l s.number)
     (λ t. let x = and_parts _ _ t in
-        let tid_is = tid_eq-true tx.tid tid x.0 in
-        let part_is = only_one part (sym (ap (list_any (λ n. n == part)) w.1) ∙ x.1) in
-        told_all_keeps b p l d s at part tx ts missing so_far w.1 w.2 part_is st h f w.0 w.3 (let P : Tid → Type 0 = λ t'. In (message.Prepared t' ts) l.messages in subst P (sym tid_is) told))
+    let tid_is = tid_eq-true tx.tid tid x.0 in
+    let part_is = only_one part (sym (ap (list_any (λ n. n == part)) w.1) ∙ x.1) in
+    told_all_keeps b p l d s at part tx ts missing so_far w.1 w.2 part_is st h f w.0 w.3 (let P : Tid → Type 0 = λ t'. In (message.Prepared t' ts) l.messages in subst P (sym tid_is) told))
     (λ _. stays_keeps b p l d s st h)
 
 pub prepared_keeps : (b : Ledger) (p : Partition) (part : ℕ) (tid : Tid) (ts : ℕ) (l : Ledger) (d : Desk) (s : Session) → In (message.Prepared tid ts) l.messages → Stands b p l d → Facts p l s → Kept b p l s.number (prepared part tid ts d s)

@@ -1,5 +1,5 @@
 -- What each rule of a session keeps.
-use Rattle.std.proofs.Common.{◌≡◌, ◌⊎◌, inl, inr, ⊎_elim, ℕ, zero, suc, ◌+◌, ◌<◌, ◌≤◌, ◌^◌, List, [], ◌∷◌, ◌++◌, length, length-append, Bool, true, false, refl, sym, ap, ◌∙◌, subst, arith, max, cond, true≢false}
+use Rattle.std.proofs.Common.{◌≡◌, ◌⊎◌, inl, inr, ⊎_elim, ℕ, zero, suc, ◌+◌, ◌<◌, ◌≤◌, ◌^◌, List, [], ◌∷◌, ◌++◌, length, length-append, Bool, true, false, refl, sym, ap, ◌∙◌, subst, arith, cond, true≢false}
 use Rattle.std.specs.Prelude.{Some, None, Option}
 use Rattle.us_kind.specs.Words.{In, tid_eq}
 use Rattle.us_kind.specs.declared.identity.Tid.{Tid}
@@ -20,22 +20,20 @@ use Rattle.us_client_wire.specs.declared.frame.Reply.TheVariants as reply
 use Rattle.us_peer_wire.specs.declared.message.Message.{Message}
 use Rattle.us_peer_wire.specs.declared.message.Message.TheVariants as message
 use Rattle.us_peer_wire.specs.declared.message.Version.{Version}
-use Rattle.us_peer_wire.specs.declared.message.Form.{Form}
 use Rattle.us_peer_wire.specs.declared.message.Form.TheVariants as form
 use Rattle.us_model.specs.declared.event.Note.TheVariants as note
 use Rattle.us_model.specs.declared.coordinator.Transaction.{Transaction}
-use Rattle.us_model.specs.declared.coordinator.PreparedAt.{PreparedAt}
 use Rattle.us_model.specs.declared.coordinator.Waiting.{Waiting}
 use Rattle.us_model.specs.declared.coordinator.Waiting.TheVariants as waits
 use Rattle.us_model.specs.declared.coordinator.Session.{Session}
 use Rattle.us_model.specs.declared.coordinator.Desk.{Desk}
 use Rattle.us_model.specs.State.{Partition}
 use Rattle.us_model.specs.Partitions.{known}
-use Rattle.us_model.specs.Sessions.{Acted, stays, with_packets, with_note, tell, to_partition, home, partitions_written, next_tid, begun_transaction, begun, own_effects, performed, ended, sent_out, write_of, recorded, decided, session_name}
-use Rattle.us_model.specs.Executions.{Begun, Performed, Committed, History, begun_of, ops_of, committed_in, decided_as, decided_one, noted}
-use Rattle.us_order.proofs.Ledgers.{me, name, Ledger, messages_of, with_messages, with_told, Stands, stands_packets, stands_note, stands_tell}
+use Rattle.us_model.specs.Sessions.{Acted, with_packets, with_note, tell, to_partition, home, next_tid, begun_transaction, begun, own_effects, performed, ended, sent_out, write_of, recorded, decided, session_name}
+use Rattle.us_model.specs.Executions.{Begun, Performed, Committed, History, begun_of, ops_of, committed_in, decided_as, decided_one}
+use Rattle.us_order.proofs.Ledgers.{me, name, Ledger, with_messages, with_told, Stands, stands_packets, stands_note, stands_tell}
 use Rattle.us_order.proofs.Partition.{own_known-clock, horizon}
-use Rattle.us_order.proofs.Facts.{OfBegun, effect_for, writes_of, writes_of-push, HasWrites, ops_of-none, ops_of-same, ops_of-still, state_at, IsTrueAnswer, AllTrue, AllTrue-push, AnswersGet, StillPrepared, IsDecided, IsTrue, InLog, Numbered, DecidedFacts, PartitionFacts, SameKey, once_push, StandsEarlier, earlier_front, earlier_push, BegunForm, HistoryFacts, SharedFacts, Waits, WaitsForPlace, WaitsForPrepared, begun_as, RunningFacts, SessionFacts, OfSession, FromSession, Grows, grows_nowhere, grows_further}
+use Rattle.us_order.proofs.Facts.{OfBegun, effect_for, writes_of, writes_of-push, HasWrites, ops_of-none, ops_of-same, ops_of-still, state_at, IsTrueAnswer, AllTrue, AllTrue-push, StillPrepared, IsDecided, IsTrue, Numbered, DecidedFacts, PartitionFacts, SameKey, once_push, StandsEarlier, earlier_front, earlier_push, BegunForm, HistoryFacts, SharedFacts, Waits, WaitsForPlace, WaitsForPrepared, begun_as, RunningFacts, SessionFacts, OfSession, FromSession, Grows, grows_nowhere, grows_further}
 
 -- what is known before a rule
 pub record Facts (p : Partition) (l : Ledger) (s : Session) : Type 0 where

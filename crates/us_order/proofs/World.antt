@@ -1,11 +1,11 @@
 -- Every run of the world keeps the facts.
-use Rattle.std.proofs.Common.{◌≡◌, inl, inr, ℕ, zero, suc, ◌+◌, ◌-◌, ◌≤◌, ◌^◌, List, [], ◌∷◌, ◌++◌, append-nil, append_assoc, length, length-append, Bool, true, false, ◌&&◌, refl, sym, ap, ◌∙◌, subst, arith, cond}
-use Rattle.std.specs.Prelude.{Some, None, Option, not, slice_get, nat_le, nat_lt}
+use Rattle.std.proofs.Common.{◌≡◌, inl, inr, ℕ, zero, suc, ◌+◌, ◌-◌, ◌^◌, List, [], ◌∷◌, ◌++◌, append-nil, append_assoc, length, length-append, Bool, true, false, refl, sym, ap, ◌∙◌, subst, arith, cond}
+use Rattle.std.specs.Prelude.{Some, None, Option, slice_get, nat_lt}
 use Rattle.std.proofs.lemmas.Bool.{cond_both, and_parts, not-true, leb-true, lt-ltb}
 use Rattle.std.proofs.lemmas.Option.{slice_get_past}
 use Rattle.us_kind.specs.Words.{In}
 use Rattle.us_kind.specs.declared.identity.Tid.{Tid}
-use Rattle.us_kind.proofs.ListLemmas.{in_front, in_got, in_later, GoesOn, goes_by}
+use Rattle.us_kind.proofs.ListLemmas.{in_front, in_got, in_later, GoesOn}
 use Rattle.us_value.specs.declared.item.Write.{Write}
 use Rattle.us_exec.specs.declared.SessionName.{SessionName}
 use Rattle.us_peer_wire.specs.declared.message.Actor.{Actor}
@@ -16,16 +16,15 @@ use Rattle.us_model.specs.declared.event.Event.{Event}
 use Rattle.us_model.specs.declared.event.Event.TheVariants as event
 use Rattle.us_model.specs.declared.event.Note.{Note}
 use Rattle.us_model.specs.declared.event.Note.TheVariants as note
-use Rattle.us_model.specs.declared.event.Outputs.{Outputs}
 use Rattle.us_model.specs.declared.coordinator.Session.{Session}
 use Rattle.us_model.specs.declared.coordinator.Desk.{Desk}
-use Rattle.us_model.specs.State.{Partition, Coordinator, Shard, Site}
+use Rattle.us_model.specs.State.{Partition, Shard, Site}
 use Rattle.us_model.specs.Partitions.{known, get, may_prepare, prepared as prepared_here, timestamp_for, committed, commit, versions}
 use Rattle.us_model.specs.Sessions.{Acted, bytes, version, prepared, run_session}
-use Rattle.us_model.specs.Sites.{Went, desk_of, all_sessions, with_partition, new_session, opened, answer_to, take_message, is_for, actor_of, take_event, answers, wake, Stepped, shard_at, with_shard, step_of, site_step, new_site, new_shard, no_outputs}
-use Rattle.us_model.specs.Worlds.{World, Happening, Opens, Sends, Comes, nth, stepped, at_one, at_site, delivered, comes, happens, run, start}
-use Rattle.us_model.specs.Executions.{Begun, History, history_of, noted_all, no_history}
-use Rattle.us_order.proofs.Ledgers.{me, name, Ledger, messages_of, messages_of-append, noted_all-append, with_messages, Stands}
+use Rattle.us_model.specs.Sites.{Went, desk_of, all_sessions, with_partition, new_session, opened, answer_to, take_message, is_for, actor_of, take_event, answers, wake, Stepped, shard_at, step_of, site_step, new_shard, no_outputs}
+use Rattle.us_model.specs.Worlds.{World, Happening, Opens, Sends, Comes, nth, at_site, delivered, comes, happens, run, start}
+use Rattle.us_model.specs.Executions.{history_of, noted_all, no_history}
+use Rattle.us_order.proofs.Ledgers.{me, Ledger, messages_of, messages_of-append, noted_all-append, with_messages, Stands}
 use Rattle.us_order.proofs.Partition.{commit_by}
 use Rattle.us_order.proofs.Facts.{PartitionFacts, SharedFacts, SessionFacts}
 use Rattle.us_order.proofs.Sessions.{Facts, Kept}
