@@ -1,1 +1,2 @@
+pub mod Permutations
 pub mod SameBytes
