@@ -1,2 +1,4 @@
 pub mod Permutations
+pub mod ListLemmas
 pub mod SameBytes
+pub mod TestLemmas
