@@ -5,6 +5,7 @@ ghost use Rattle.std.specs.Cmp.{partial_order_from_own_ties};
 ghost use Rattle.std.specs.Cmp.Rules.{comparing};
 ghost use Rattle.std.specs.Cmp.Lexicographic.{pointwise, slice_cmp};
 ghost use Rattle.std.specs.Ordering.{nat_cmp, as_partial_cmp};
+ghost use Rattle.us_kind.specs.Words.{bytes_eq};
 
 use crate::Memory;
 use std::alloc::Global;
@@ -59,6 +60,13 @@ impl Bytes {
         ensures { result ≡ length self.now }
     {
         self.items.len()
+    }
+
+    /// The two are the same bytes.
+    pub fn same(&self, other: &Bytes) -> bool
+        ensures { result ≡ bytes_eq self.now other.now }
+    {
+        self.as_slice() == other.as_slice()
     }
 
     pub fn copy(&self) -> Result<Bytes, Memory>
