@@ -43,6 +43,7 @@ impl Model for FrameReader {
 impl FrameReader {
     ghost use Rattle.us_wire.specs.Frames.{fed};
     ghost use Rattle.us_wire.specs.Answers.{Answers};
+    ghost use Rattle.us_wire.specs.Runs.{after, answer_of, next_of};
 
     /// A reader of frames of at most `limit` bytes, the length field included.
     pub fn new(alloc: Global, limit: u32) -> FrameReader
@@ -68,6 +69,7 @@ impl FrameReader {
     /// Gives out the next frame of the stream, if the whole of it came.
     pub fn next_frame(&mut self) -> Result<Next, Memory>
         ensures ok { IfOk result (λ next. Answers next self.old self.new) }
+        ensures model { IfOk result (λ next. (answer_of next ≡ next_of self.old) × (self.new ≡ after (answer_of next) self.old)) }
         ensures err { OnErr result (self.new ≡ self.old) }
     {
         let unread = &self.buffer[self.start..];

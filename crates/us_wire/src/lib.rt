@@ -2,6 +2,7 @@
 #![tactic(auto)]
 
 mod frames;
+pub mod laws;
 mod read_fields;
 mod write_fields;
 
