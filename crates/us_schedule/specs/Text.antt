@@ -1,0 +1,41 @@
+-- The lines of a text, and the parts of a text around its separator.
+use Rattle.std.specs.Prelude.{◌≡◌, ℕ, ◌+◌, ◌-◌, ◌==◌, Bool, if◌then◌else◌, List, [], ◌∷◌, ◌++◌, length, take, map, slice_index, codes, Option, Some, None}
+use Rattle.std.specs.List.{onto_first, concat}
+use Rattle.std.specs.Str.Lines.{strip_carriage_return}
+use Rattle.us_kind.specs.Words.{bytes_eq}
+
+-- the text cut behind each LF: each line with its end
+abbrev pub raw_lines : List ℕ → List (List ℕ)
+raw_lines [] = []
+raw_lines (b ∷ rest) = if b == 10 then (10 ∷ []) ∷ raw_lines rest else onto_first b (raw_lines rest)
+
+-- a line without its end: the LF, and one CR before it
+abbrev pub without_end : List ℕ → List ℕ
+without_end raw = if slice_index raw (length raw - 1) == 10 then strip_carriage_return (take (length raw - 1) raw) else raw
+
+-- the lines of a text. A last line may lack its LF, and then keeps its CR
+abbrev pub text_lines : List ℕ → List (List ℕ)
+text_lines text = map without_end (raw_lines text)
+
+-- the line that ends the first part of a text
+abbrev pub separator : List ℕ
+separator = codes "---"
+
+-- a text around its first separator: the text before that line, the number of that line from 1, and the text behind it
+pub record Parted : Type 0 where
+  pub before : List ℕ
+  pub line : ℕ
+  pub behind : List ℕ
+
+-- the same with one more line in front
+abbrev pub after_line : List ℕ → Option Parted → Option Parted
+after_line raw None = None
+after_line raw (Some parted) = Some (record { before = raw ++ parted.before; line = parted.line + 1; behind = parted.behind })
+
+abbrev pub parted_lines : List (List ℕ) → Option Parted
+parted_lines [] = None
+parted_lines (raw ∷ more) = if bytes_eq (without_end raw) separator then Some (record { before = []; line = 1; behind = concat more }) else after_line raw (parted_lines more)
+
+-- the parts of a text, where one of its lines is the separator
+abbrev pub parted_text : List ℕ → Option Parted
+parted_text text = parted_lines (raw_lines text)
