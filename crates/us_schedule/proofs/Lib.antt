@@ -1,1 +1,4 @@
 mod Rows
+pub mod Digits
+pub mod Words
+pub mod Grammar

@@ -1,13 +1,12 @@
 -- The lines of a schedule: what each says, how it is spelled, and why a line is refused.
-use Rattle.std.specs.Prelude.{◌≡◌, ℕ, ◌+◌, ◌^◌, ◌==◌, nat_lt, nat_le, not, Bool, ◌&&◌, ◌||◌, if◌then◌else◌, List, [], ◌∷◌, length, slice_index, codes, IsTrue, Option, Some, None, Result, Ok, Err}
+use Rattle.std.specs.Prelude.{◌≡◌, ℕ, ◌+◌, ◌^◌, ◌==◌, nat_lt, nat_le, not, Bool, ◌&&◌, ◌||◌, if◌then◌else◌, List, [], ◌∷◌, length, map, slice_index, codes, IsTrue, Option, Some, None, Result, Ok, Err}
 use Rattle.std.specs.List.{slice_split, join_with_byte}
-use Rattle.std.specs.Str.{all_ascii_digits}
+use Rattle.std.specs.Str.{all_ascii_digits, bytes_eq}
 use Rattle.std.specs.Str.Parse.{digits_value}
 use Rattle.std.specs.Fmt.{decimal}
 use Rattle.hex.specs.Hex.{decode_of, encode_lower, IsBytes}
-use Rattle.us_kind.specs.Words.{bytes_eq}
 use Rattle.us_base.specs.declared.shape.Shape.{Shape}
-use Rattle.us_base.specs.Shape.{sites_of}
+use Rattle.us_base.specs.Shape.{sites_of, IsShape}
 use Rattle.us_schedule.specs.declared.fault.LineFault.{LineFault}
 use Rattle.us_schedule.specs.declared.fault.LineFault.TheVariants as fault
 use Rattle.us_schedule.specs.declared.line.Line.{Line}
@@ -93,12 +92,20 @@ abbrev pub ◌>>=◌ : {A B : Type 0} → Result A LineFault → (A → Result B
 (Ok x) >>= f = f x
 (Err e) >>= f = Err e
 
--- decimal digits without a leading zero, at most 2^64 - 1
-abbrev pub is_number : List ℕ → Bool
-is_number word = all_ascii_digits word && (nat_lt 0 (length word) && ((not (slice_index word 0 == 48) || (length word == 1)) && nat_lt (digits_value 10 word) (2 ^ 64)))
+-- the number that decimal digits write, below 2^64
+abbrev pub number_in : List ℕ → Option ℕ
+number_in digits = if all_ascii_digits digits && nat_lt (digits_value 10 digits) (2 ^ 64) then Some (digits_value 10 digits) else None
 
+abbrev pub has_leading_zero : List ℕ → Bool
+has_leading_zero word = (slice_index word 0 == 48) && nat_lt 1 (length word)
+
+abbrev pub or_bad_number : Option ℕ → Result ℕ LineFault
+or_bad_number (Some n) = Ok n
+or_bad_number None = Err fault.BadNumber
+
+-- the number of a word: decimal digits without a leading zero, at most 2^64 - 1
 abbrev pub number : List ℕ → Result ℕ LineFault
-number word = if is_number word then Ok (digits_value 10 word) else Err fault.BadNumber
+number word = if (length word == 0) || has_leading_zero word then Err fault.BadNumber else or_bad_number (number_in word)
 
 abbrev pub hex_of : {E : Type 0} → Result (List ℕ) E → Result (List ℕ) LineFault
 hex_of (Ok bytes) = Ok bytes
@@ -137,26 +144,37 @@ three_and_hex shape line a b c d = do
   bytes ← hex d
   within shape (line x y z bytes)
 
--- the line of a name and the words behind it: no name stands for two lines
-unfoldable pub said : Shape → List (List ℕ) → Result Line LineFault
-said shape (name ∷ a ∷ []) =
+-- the line of a name and the words behind it
+abbrev pub said_by_one : Shape → List ℕ → List ℕ → Result Line LineFault
+said_by_one shape name a =
     if bytes_eq name (codes "deliver") then one shape Deliver a
     else if bytes_eq name (codes "lead") then one shape Lead a
     else if bytes_eq name (codes "crash") then one shape Crash a
     else Err fault.BadWord
-said shape (name ∷ a ∷ b ∷ []) =
+
+abbrev pub said_by_two : Shape → List ℕ → List ℕ → List ℕ → Result Line LineFault
+said_by_two shape name a b =
     if bytes_eq name (codes "open") then two shape Open a b
     else if bytes_eq name (codes "flush") then two shape Flush a b
     else if bytes_eq name (codes "forward") then two shape Forward a b
     else if bytes_eq name (codes "settle") then two shape Settle a b
     else Err fault.BadWord
-said shape (name ∷ a ∷ b ∷ c ∷ []) =
+
+abbrev pub said_by_three : Shape → List ℕ → List ℕ → List ℕ → List ℕ → Result Line LineFault
+said_by_three shape name a b c =
     if bytes_eq name (codes "close") then three shape Close a b c
     else if bytes_eq name (codes "tick") then three shape Tick a b c
     else Err fault.BadWord
-said shape (name ∷ a ∷ b ∷ c ∷ d ∷ []) =
-    if bytes_eq name (codes "bytes") then three_and_hex shape Bytes a b c d
-    else Err fault.BadWord
+
+abbrev pub said_by_four : Shape → List ℕ → List ℕ → List ℕ → List ℕ → List ℕ → Result Line LineFault
+said_by_four shape name a b c d = if bytes_eq name (codes "bytes") then three_and_hex shape Bytes a b c d else Err fault.BadWord
+
+-- the line of all its words
+unfoldable pub said : Shape → List (List ℕ) → Result Line LineFault
+said shape (name ∷ a ∷ []) = said_by_one shape name a
+said shape (name ∷ a ∷ b ∷ []) = said_by_two shape name a b
+said shape (name ∷ a ∷ b ∷ c ∷ []) = said_by_three shape name a b c
+said shape (name ∷ a ∷ b ∷ c ∷ d ∷ []) = said_by_four shape name a b c d
 said shape _ = Err fault.BadWord
 
 abbrev pub read_of : Result Line LineFault → Read
@@ -171,7 +189,32 @@ is_skipped text = (length text == 0) || (slice_index text 0 == 35)
 abbrev pub line_read : Shape → List ℕ → Read
 line_read shape text = if is_skipped text then Skipped else read_of (said shape (slice_split (λ b. b == 32) text))
 
--- what reading returned is what the line says, unless memory ran out
+-- ---- what is written is read, and what is read is spelled so
+
+-- a letter of a hex digit in lower case
+abbrev pub lower_digit : ℕ → ℕ
+lower_digit c = if nat_le 65 c && nat_le c 70 then c + 32 else c
+
+-- a line that the grammar allows is read as itself
+abbrev pub WrittenIsRead : Type 0
+WrittenIsRead = (shape : Shape) (line : Line) → IsShape shape → IsAllowed shape line → line_read shape (spelling_of line) ≡ Found line
+
+-- a line has no other text, but for the case of its hex digits, and is allowed
+abbrev pub ReadIsWritten : Type 0
+ReadIsWritten = (shape : Shape) (text : List ℕ) (line : Line) → line_read shape text ≡ Found line → (map lower_digit text ≡ spelling_of line) × IsAllowed shape line
+
+-- ---- reading by code
+
+-- what a step of reading returned is what the text says, unless memory ran out
+abbrev pub FailsAs : {A : Type 0} → LineFault → Result A LineFault → Type 0
+FailsAs fault.Memory said = Unit {0}
+FailsAs e said = said ≡ Err e
+
+abbrev pub Says : {A : Type 0} → Result A LineFault → Result A LineFault → Type 0
+Says (Ok value) said = said ≡ Ok value
+Says (Err e) said = FailsAs e said
+
+-- the same, of a whole line
 abbrev pub Fails : LineFault → Read → Type 0
 Fails fault.Memory read = Unit {0}
 Fails e read = read ≡ Refused e

@@ -2,7 +2,7 @@
 use Rattle.std.specs.Prelude.{◌≡◌, ℕ, ◌+◌, ◌-◌, ◌==◌, Bool, if◌then◌else◌, List, [], ◌∷◌, ◌++◌, length, take, map, slice_index, codes, Option, Some, None}
 use Rattle.std.specs.List.{onto_first, concat}
 use Rattle.std.specs.Str.Lines.{strip_carriage_return}
-use Rattle.us_kind.specs.Words.{bytes_eq}
+use Rattle.std.specs.Str.{bytes_eq}
 
 -- the text cut behind each LF: each line with its end
 abbrev pub raw_lines : List ℕ → List (List ℕ)

@@ -1,9 +1,9 @@
 ghost use Rattle.std.specs.Prelude.{◌≡◌};
 ghost use Rattle.us_schedule.specs.declared.fault.LineFault.TheVariants.{Memory};
 
+use std::alloc::AllocError;
 use std::error::Error;
 use std::fmt;
-use us_kind::Memory;
 
 /// Why a line is refused: the first of the first four that holds. `Memory` may come at any line.
 #[derive(Clone, Copy, Debug, PartialEq, Eq, Hash)]
@@ -34,10 +34,10 @@ impl fmt::Display for LineFault {
 
 impl Error for LineFault {}
 
-impl From<Memory> for LineFault {
+impl From<AllocError> for LineFault {
     ghost from_gives = { λ _ e. e ≡ Memory };
 
-    fn from(_error: Memory) -> LineFault {
+    fn from(_error: AllocError) -> LineFault {
         LineFault::Memory
     }
 }

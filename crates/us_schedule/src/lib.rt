@@ -3,6 +3,9 @@
 
 mod fault;
 mod line;
+mod numbers;
+mod reading;
 
 pub use fault::LineFault;
 pub use line::Line;
+pub use reading::read_line;
