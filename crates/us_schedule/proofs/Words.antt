@@ -108,3 +108,56 @@ digit_is c v e =
           (eqb-true (lower_digit c) (slice_index lower_digits v) p.0, ltb-true v 16 p.1)
       | inr le ↦ absurd (let n = no_digit_above c le in cc)
     ]
+
+-- the bytes of a hex text
+pub record IsHex (text bytes : List ℕ) : Type 0 where
+  pub spelled : map lower_digit text ≡ encode_lower bytes
+  pub fits : IsBytes bytes
+
+byte_parts : (h l : ℕ) → l < 16 → ((h * 16 + l) / 16 ≡ h) × ((h * 16 + l) % 16 ≡ l)
+byte_parts h l lt = (omega arith, omega arith)
+
+cons_bytes : (b : ℕ) (bytes : List ℕ) → b < 256 → IsBytes bytes → IsBytes (b ∷ bytes)
+cons_bytes b bytes lt h zero = lt
+cons_bytes b bytes lt h (suc i) = h i
+
+-- the byte of two digits, and the bytes behind it
+pair_is : (i high low : ℕ) (rest bytes : List ℕ) (o p : Option ℕ) (r : Result (List ℕ) FromHexError)
+    → hex_digit_value high ≡ o → hex_digit_value low ≡ p → ((more : List ℕ) → r ≡ Ok more → IsHex rest more)
+    → ((digit_or_error high i o >>= λ h. digit_or_error low (i + 1) p >>= λ l. Ok (h * 16 + l)) >>= λ b. r >>= λ more. Ok (b ∷ more)) ≡ Ok bytes
+    → IsHex (high ∷ low ∷ rest) bytes
+unfolding encode_with
+pair_is i high low rest bytes None p r eo ep ih e = absurd cc
+pair_is i high low rest bytes (Some h) None r eo ep ih e = absurd cc
+pair_is i high low rest bytes (Some h) (Some l) (Err d) eo ep ih e = absurd cc
+pair_is i high low rest bytes (Some h) (Some l) (Ok more) eo ep ih e =
+    let a = digit_is high h eo in
+    let b = digit_is low l ep in
+    let parts = byte_parts h l b.1 in
+    let tail = ih more refl in
+    let is : (h * 16 + l) ∷ more ≡ bytes = cc in
+    let spelled : map lower_digit (high ∷ low ∷ rest) ≡ encode_lower ((h * 16 + l) ∷ more) = rw (a.0, b.0, parts.0, parts.1, tail.spelled) refl in
+    subst (λ (bs : List ℕ). IsHex (high ∷ low ∷ rest) bs) is (record { spelled = spelled; fits = cons_bytes (h * 16 + l) more (omega (arith, a.1, b.1)) tail.fits })
+
+pairs_are : (i : ℕ) (text bytes : List ℕ) → decode_pairs i text ≡ Ok bytes → IsHex text bytes
+unfolding decode_pairs encode_with
+pairs_are i [] bytes e =
+    let is : [] ≡ bytes = cc in
+    subst (λ (bs : List ℕ). IsHex [] bs) is (record { spelled = refl; fits = λ i. omega arith })
+pairs_are i (digit ∷ []) bytes e = absurd cc
+pairs_are i (high ∷ low ∷ rest) bytes e =
+    pair_is i high low rest bytes (hex_digit_value high) (hex_digit_value low) (decode_pairs (i + 2) rest) refl refl (λ more q. pairs_are (i + 2) rest more q) e
+
+hex_of_ok : {E : Type 0} (r : Result (List ℕ) E) (bytes : List ℕ) → hex_of r ≡ Ok bytes → r ≡ Ok bytes
+hex_of_ok (Ok x) bytes e = let k : x ≡ bytes = cc in ap Ok k
+hex_of_ok (Err d) bytes e = absurd cc
+
+refused_odd : {A E : Type 0} (b : Bool) (e : E) (r : Result A E) (y : A) → cond b (Err e) r ≡ Ok y → r ≡ Ok y
+refused_odd true e r y h = absurd cc
+refused_odd false e r y h = h
+
+pub hex_ok : (text bytes : List ℕ) → hex text ≡ Ok bytes → IsHex text bytes
+hex_ok text bytes e = pairs_are 0 text bytes (refused_odd (length text % 2 == 1) _ (decode_pairs 0 text) bytes (hex_of_ok (decode_of text) bytes e))
+
+pub hex_again : (bytes : List ℕ) → IsBytes bytes → hex (encode_lower bytes) ≡ Ok bytes
+hex_again bytes h = rw (decode_of-encode_lower bytes h) refl
