@@ -2,3 +2,4 @@ mod Rows
 pub mod Digits
 pub mod Words
 pub mod Grammar
+pub mod Again
