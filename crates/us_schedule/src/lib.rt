@@ -2,10 +2,14 @@
 #![tactic(auto)]
 
 mod fault;
+mod laws;
 mod line;
 mod numbers;
 mod reading;
+mod writing;
 
 pub use fault::LineFault;
+pub use laws::{read_line_is_written, written_line_is_read};
 pub use line::Line;
 pub use reading::read_line;
+pub use writing::write_line;
