@@ -3,3 +3,5 @@ pub mod Digits
 pub mod Words
 pub mod Grammar
 pub mod Again
+pub mod Cuts
+pub mod Parting

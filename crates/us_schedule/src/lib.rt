@@ -6,10 +6,12 @@ mod laws;
 mod line;
 mod numbers;
 mod reading;
+mod text;
 mod writing;
 
 pub use fault::LineFault;
 pub use laws::{read_line_is_written, written_line_is_read};
 pub use line::Line;
 pub use reading::read_line;
+pub use text::{NoSeparator, Parts, next_line, split_text};
 pub use writing::write_line;
