@@ -2,7 +2,7 @@
 use Rattle.std.proofs.Common.{◌≡◌, ◌≢◌, ℕ, zero, suc, ◌+◌, ◌-◌, ◌<◌, ◌≤◌, Bool, true, false, cond, eqb, ◌⊎◌, inl, inr, List, [], ◌∷◌, ◌++◌, map, length, get_or, take, drop, Option, Some, None, refl, sym, ap, ◌∙◌, subst, append_assoc, zero-add, arith}
 use Rattle.std.specs.List.{onto_first, concat, AllByRecursion}
 use Rattle.std.specs.Str.{bytes_eq}
-use Rattle.std.proofs.lemmas.Bool.{cases_Bool, ne_eqb, eq-eqb, eqb-true}
+use Rattle.std.proofs.lemmas.Bool.{false≢true, eqb-true}
 use Rattle.std.proofs.lemmas.List.{append-nil, take_at, length-append, length-map}
 use Rattle.std.proofs.lemmas.Slice.Eq.{bytes_eq-Decides}
 use Rattle.us_schedule.specs.Text.{raw_lines, without_end, text_lines, IsFirstLine, Parted, after_lines, parted_lines, parted_text, separator, IsParted}
@@ -121,3 +121,65 @@ behind_cut b rest raw more false ih h = behind_onto b (raw_lines rest) raw more 
 behind_first : (text raw : List ℕ) (more : List (List ℕ)) → raw_lines text ≡ raw ∷ more → more ≡ raw_lines (concat more)
 behind_first [] raw more h = absurd (cc)
 behind_first (b ∷ rest) raw more h = behind_cut b rest raw more (eqb b 10) (λ r rs q. behind_first rest r rs q) h
+
+-- ---- the lines of the parts
+
+pub none_is : (raws : List (List ℕ)) → parted_lines raws ≡ None → AllByRecursion (λ line. line ≢ separator) (map without_end raws)
+none_is [] e = tt
+none_is (raw ∷ more) e = none_cons raw more (bytes_eq (without_end raw) separator) refl (none_is more) e
+  where
+    after_is_none : (raw : List ℕ) (parted : Option Parted) → after_lines raw 1 parted ≡ None → parted ≡ None
+    after_is_none raw None e = refl
+    after_is_none raw (Some p) e = absurd (cc)
+    none_cons : (raw : List ℕ) (more : List (List ℕ)) (t : Bool) → bytes_eq (without_end raw) separator ≡ t → (parted_lines more ≡ None → AllByRecursion (λ line. line ≢ separator) (map without_end more))
+        → cond t (Some (record { before = []; line = 1; behind = concat more })) (after_lines raw 1 (parted_lines more)) ≡ None → (without_end raw ≢ separator) × AllByRecursion (λ line. line ≢ separator) (map without_end more)
+    none_cons raw more true t ih e = absurd (cc)
+    none_cons raw more false t ih e = (λ same. false≢true (sym t ∙ (bytes_eq-Decides (without_end raw) separator).1 same), ih (after_is_none raw (parted_lines more) e))
+
+after_is_some : (raw : List ℕ) (parted : Option Parted) (p : Parted) → after_lines raw 1 parted ≡ Some p → (q : Parted) × (parted ≡ Some q) × (record { before = raw ++ q.before; line = 1 + q.line; behind = q.behind } ≡ p)
+after_is_some raw None p e = absurd (cc)
+after_is_some raw (Some q) p e = (q, refl, cc)
+
+at_separator : (text raw : List ℕ) (more : List (List ℕ)) → raw_lines text ≡ raw ∷ more → without_end raw ≡ separator → IsParted text (record { before = []; line = 1; behind = concat more })
+at_separator text raw more cut same =
+    record {
+      lines = ap (map without_end) cut ∙ (λ i. same i ∷ map without_end (behind_first text raw more cut i));
+      number = refl;
+      first = tt;
+    }
+
+beyond : (text raw next : List ℕ) (more : List (List ℕ)) (q : Parted) → raw_lines text ≡ raw ∷ next ∷ more → (without_end raw ≢ separator) → IsParted (concat (next ∷ more)) q
+    → IsParted text (record { before = raw ++ q.before; line = 1 + q.line; behind = q.behind })
+beyond text raw next more q cut other h =
+    let closed = closed_first text raw next more cut q.before in
+    let front : text_lines (raw ++ q.before) ≡ without_end raw ∷ text_lines q.before = ap (map without_end) closed in
+    let rest : text_lines text ≡ without_end raw ∷ text_lines (concat (next ∷ more)) = ap (map without_end) cut ∙ ap (λ (ls : List (List ℕ)). without_end raw ∷ map without_end ls) (behind_first text raw (next ∷ more) cut) in
+    let number = h.number in
+    let len = ap length front in
+    record {
+      lines = rest ∙ ap (λ (ls : List (List ℕ)). without_end raw ∷ ls) h.lines ∙ sym (ap (λ (ls : List (List ℕ)). ls ++ separator ∷ text_lines q.behind) front);
+      number = omega arith;
+      first = rw front (other, h.first);
+    }
+
+parted_more : (text raw : List ℕ) (more : List (List ℕ)) (p : Parted) (t : Bool) → bytes_eq (without_end raw) separator ≡ t → raw_lines text ≡ raw ∷ more
+    → ((q : Parted) → parted_lines more ≡ Some q → IsParted (concat more) q)
+    → cond t (Some (record { before = []; line = 1; behind = concat more })) (after_lines raw 1 (parted_lines more)) ≡ Some p → IsParted text p
+parted_more text raw more p true e cut ih h =
+    let P : Parted → Type 0 = λ q. IsParted text q in
+    let k : record { before = []; line = 1; behind = concat more } ≡ p = cc in
+    subst P k (at_separator text raw more cut ((bytes_eq-Decides (without_end raw) separator).0 e))
+parted_more text raw [] p false e cut ih h = absurd (cc)
+parted_more text raw (next ∷ more) p false e cut ih h =
+    let P : Parted → Type 0 = λ q. IsParted text q in
+    let s = after_is_some raw (parted_lines (next ∷ more)) p h in
+    let other : without_end raw ≢ separator = λ same. false≢true (sym e ∙ (bytes_eq-Decides (without_end raw) separator).1 same) in
+    subst P s.2 (beyond text raw next more s.0 cut other (ih s.0 s.1))
+
+parted_is : (raws : List (List ℕ)) (text : List ℕ) (p : Parted) → raw_lines text ≡ raws → parted_lines raws ≡ Some p → IsParted text p
+parted_is [] text p cut e = absurd (cc)
+parted_is (raw ∷ more) text p cut e =
+    parted_more text raw more p (bytes_eq (without_end raw) separator) refl cut (λ q s. parted_is more (concat more) q (sym (behind_first text raw more cut)) s) e
+
+pub is_parted : (text : List ℕ) (p : Parted) → parted_text text ≡ Some p → IsParted text p
+is_parted text p e = parted_is (raw_lines text) text p refl e

@@ -1,6 +1,8 @@
-ghost use Rattle.std.specs.Prelude.{◌≡◌, ◌≢◌, ◌<◌, ◌↔◌, ◌∷◌, [], ℕ, length, slice_index, IsNone, IfNone, IfSome, MatchResult, Some, None, ◌+◌};
+ghost use Rattle.std.specs.Prelude.{◌≡◌, ◌≢◌, ◌<◌, ◌↔◌, ◌∷◌, [], ℕ, length, slice_index, IsNone, IfNone, IfSome, IfOk, IfErr, OnErr, Some, None, ◌+◌};
+ghost use Rattle.std.specs.List.{AllByRecursion};
 ghost use Rattle.std.specs.Str.Lines.{strip_carriage_return};
-ghost use Rattle.us_schedule.specs.Text.{text_lines, IsFirstLine, parted_text};
+ghost use Rattle.us_schedule.specs.Text.{text_lines, IsFirstLine, IsParted, separator, parted_text};
+ghost use Rattle.us_schedule.specs.Parts.{parted_of};
 
 /// The line between the configuration and the lines of a schedule.
 const SEPARATOR: &[u8] = b"---";
@@ -45,9 +47,11 @@ pub struct NoSeparator {
 ///
 /// `NoSeparator` exactly where no line is `---`.
 pub fn split_text(text: &[u8]) -> Result<Parts<'_>, NoSeparator>
-    ensures exact { MatchResult result
-        (λ parts. parted_text text.now ≡ Some (record { before = parts.before.now; line = parts.line; behind = parts.behind.now }))
-        (λ missing. (parted_text text.now ≡ None) × (missing.line ≡ length (text_lines text.now) + 1)) }
+    ensures parted { IfOk result (λ parts. parted_text text.now ≡ Some (parted_of parts)) }
+    ensures lines { IfOk result (λ parts. IsParted text.now (parted_of parts)) }
+    ensures none { OnErr result (parted_text text.now ≡ None) }
+    ensures nowhere { OnErr result (AllByRecursion (λ line. line ≢ separator) (text_lines text.now)) }
+    ensures missed { IfErr result (λ missing. missing.line ≡ length (text_lines text.now) + 1) }
 {
     let mut line = 1;
     let mut rest = text;
