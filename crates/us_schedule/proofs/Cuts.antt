@@ -4,7 +4,7 @@ use Rattle.std.specs.Prelude.{◌==◌}
 use Rattle.std.specs.List.{onto_first}
 use Rattle.std.specs.Str.Lines.{strip_carriage_return}
 use Rattle.std.proofs.lemmas.Bool.{ne_eqb, eq-eqb}
-use Rattle.std.proofs.lemmas.List.{take-append-drop, length-take, get_or-take, take-take, take_all, length-drop, append-nil, nil_from_length}
+use Rattle.std.proofs.lemmas.List.{take-append-drop, length-take, get_or-take, take-take, take_all, length-drop, append-nil, nil_from_length, length-map}
 use Rattle.us_schedule.specs.Text.{raw_lines, without_end, text_lines, IsFirstLine, Parted, after_lines, parted_lines, parted_text, separator}
 
 raw_at : (text : List ℕ) (n : ℕ) → n < length text → get_or text n 0 ≡ 10 → ((k : ℕ) → k < n → get_or text k 0 ≢ 10) → raw_lines text ≡ take (suc n) text ∷ raw_lines (drop (suc n) text)
@@ -53,3 +53,20 @@ pub first_at : (text line : List ℕ) (n : ℕ) → n < length text → get_or t
 first_at text line n lt e before is =
     let s : n + 1 ≡ suc n = omega arith in
     rw s (record { raw = take (suc n) text; whole = sym (take-append-drop (suc n) text); cut = raw_at text n lt e before; is = is ∙ ended text n lt e })
+
+-- ---- how many lines
+
+length_onto : (b : ℕ) (raws : List (List ℕ)) → length (onto_first b raws) ≤ length raws + 1
+length_onto b [] = omega arith
+length_onto b (raw ∷ raws) = omega arith
+
+length_cut : (b : ℕ) (rest : List ℕ) (t : Bool) → length (raw_lines rest) ≤ length rest → length (cond t ((10 ∷ []) ∷ raw_lines rest) (onto_first b (raw_lines rest))) ≤ length rest + 1
+length_cut b rest true h = omega arith
+length_cut b rest false h = omega (arith, length_onto b (raw_lines rest))
+
+raw_few : (text : List ℕ) → length (raw_lines text) ≤ length text
+raw_few [] = omega arith
+raw_few (b ∷ rest) = let k = length_cut b rest (eqb b 10) (raw_few rest) in omega arith
+
+pub lines_few : (text : List ℕ) → length (text_lines text) ≤ length text
+lines_few text = let few = raw_few text in omega (arith, length-map (raw_lines text) without_end)

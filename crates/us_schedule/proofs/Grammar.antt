@@ -54,7 +54,6 @@ within_ok shape made line e =
       | inr h ↦ absurd cc
     ]
 
-
 -- ---- what is read is spelled so, and is in range
 
 abbrev pub lower_words : List (List ℕ) → List (List ℕ)

@@ -131,6 +131,7 @@ none_is (raw ∷ more) e = none_cons raw more (bytes_eq (without_end raw) separa
     after_is_none : (raw : List ℕ) (parted : Option Parted) → after_lines raw 1 parted ≡ None → parted ≡ None
     after_is_none raw None e = refl
     after_is_none raw (Some p) e = absurd (cc)
+
     none_cons : (raw : List ℕ) (more : List (List ℕ)) (t : Bool) → bytes_eq (without_end raw) separator ≡ t → (parted_lines more ≡ None → AllByRecursion (λ line. line ≢ separator) (map without_end more))
         → cond t (Some (record { before = []; line = 1; behind = concat more })) (after_lines raw 1 (parted_lines more)) ≡ None → (without_end raw ≢ separator) × AllByRecursion (λ line. line ≢ separator) (map without_end more)
     none_cons raw more true t ih e = absurd (cc)

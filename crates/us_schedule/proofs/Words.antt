@@ -48,7 +48,7 @@ number_ok word n e =
     let digits = and_parts (all_ascii_digits word) (ltb (digits_value 10 word) (2 ^ 64)) b.0 in
     let below : digits_value 10 word < 2 ^ 64 = ltb-true _ _ digits.1 in
     let front = or_false (length word == 0) (has_leading_zero word) a.0 in
-    let some : 0 < length word = elim (cases_eq (length word) 0) [ | inl z ↦ absurd (let t = eq-eqb (length word) 0 z in cc) | inr z ↦ omega arith ] in
+    let some : 0 < length word = elim (cases_eq (length word) 0) [ inl z ↦ absurd (let t = eq-eqb (length word) 0 z in cc) | inr z ↦ omega arith ] in
     let zero_alone : get_or word 0 0 ≡ 48 → length word ≡ 1 = λ z. elim (cases_lt 1 (length word)) [
       | inl more ↦ absurd (let t = and_from _ _ (eq-eqb (get_or word 0 0) 48 z) (lt-ltb 1 (length word) more) in cc)
       | inr one ↦ omega arith

@@ -13,5 +13,8 @@ pub use fault::LineFault;
 pub use laws::{read_line_is_written, written_line_is_read};
 pub use line::Line;
 pub use reading::read_line;
-pub use text::{NoSeparator, Parts, next_line, split_text};
+pub use text::{Lines, NoSeparator, Parts, lines_of, next_line, split_text};
 pub use writing::write_line;
+
+#[cfg(test)]
+mod tests;

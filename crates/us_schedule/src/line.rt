@@ -6,7 +6,10 @@ use us_kind::{Bytes, Memory};
 #[derive(Drop)]
 pub enum Line {
     /// A session is opened at the coordinator.
-    Open { site: u8, coord: u8 },
+    Open {
+        site: u8,
+        coord: u8,
+    },
     /// Bytes of the session's client, 1 to 65,536.
     Bytes {
         site: u8,
@@ -15,21 +18,44 @@ pub enum Line {
         bytes: Bytes,
     },
     /// The session is closed.
-    Close { site: u8, coord: u8, session: u64 },
+    Close {
+        site: u8,
+        coord: u8,
+        session: u64,
+    },
     /// The actor's clock strikes.
-    Tick { site: u8, actor: u8, clock: u64 },
+    Tick {
+        site: u8,
+        actor: u8,
+        clock: u64,
+    },
     /// The packet of this number, from 1, is delivered.
-    Deliver { number: u64 },
+    Deliver {
+        number: u64,
+    },
     /// The packets from one site to another are delivered.
-    Flush { from: u8, to: u8 },
+    Flush {
+        from: u8,
+        to: u8,
+    },
     /// The site's certifier takes the lead.
-    Lead { site: u8 },
+    Lead {
+        site: u8,
+    },
     /// The site forwards the transactions of another.
-    Forward { site: u8, origin: u8 },
+    Forward {
+        site: u8,
+        origin: u8,
+    },
     /// The site is lost.
-    Crash { site: u8 },
+    Crash {
+        site: u8,
+    },
     /// All live sites exchange what they know, again and again.
-    Settle { clock: u64, rounds: u64 },
+    Settle {
+        clock: u64,
+        rounds: u64,
+    },
 }
 
 impl Line {

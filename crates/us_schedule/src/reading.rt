@@ -101,13 +101,7 @@ fn line_of_two(shape: Shape, name: &[u8], a: &[u8], b: &[u8]) -> Result<Line, Li
     }
 }
 
-fn line_of_three(
-    shape: Shape,
-    name: &[u8],
-    a: &[u8],
-    b: &[u8],
-    c: &[u8],
-) -> Result<Line, LineFault>
+fn line_of_three(shape: Shape, name: &[u8], a: &[u8], b: &[u8], c: &[u8]) -> Result<Line, LineFault>
     requires { IsShape shape }
     ensures { result ≡ said_by_three shape name.now a.now b.now c.now }
 {
@@ -190,12 +184,7 @@ fn bytes_of(alloc: Global, word: &[u8]) -> Result<Bytes, LineFault>
     }
 }
 
-fn close_line(
-    shape: Shape,
-    site: &[u8],
-    coord: &[u8],
-    session: &[u8],
-) -> Result<Line, LineFault>
+fn close_line(shape: Shape, site: &[u8], coord: &[u8], session: &[u8]) -> Result<Line, LineFault>
     requires { IsShape shape }
     ensures { result ≡ three shape Line.Close site.now coord.now session.now }
 {

@@ -1,8 +1,11 @@
-ghost use Rattle.std.specs.Prelude.{◌≡◌, ◌≢◌, ◌<◌, ◌↔◌, ◌∷◌, [], ℕ, length, slice_index, IsNone, IfNone, IfSome, IfOk, IfErr, OnErr, Some, None, ◌+◌};
+ghost use Rattle.std.specs.Prelude.{◌≡◌, ◌≢◌, ◌<◌, ◌≤◌, ◌↔◌, ◌∷◌, [], ℕ, length, slice_index, IsNone, IfNone, IfSome, IfOk, IfErr, OnErr, Some, None, ◌+◌};
+ghost use Rattle.std.specs.Iterator.{YieldsFirstRef, item_count};
 ghost use Rattle.std.specs.List.{AllByRecursion};
 ghost use Rattle.std.specs.Str.Lines.{strip_carriage_return};
 ghost use Rattle.us_schedule.specs.Text.{text_lines, IsFirstLine, IsParted, separator, parted_text};
 ghost use Rattle.us_schedule.specs.Parts.{parted_of};
+
+use std::marker::Model;
 
 /// The line between the configuration and the lines of a schedule.
 const SEPARATOR: &[u8] = b"---";
@@ -21,6 +24,42 @@ pub fn next_line(text: &[u8]) -> Option<(&[u8], &[u8])>
         return Some((text, &text[text.len()..]));
     };
     Some((without_carriage_return(&text[..end]), &text[end + 1..]))
+}
+
+/// The lines of a text, one after the other: contracts see the text that is left.
+#[derive(Drop)]
+pub struct Lines<'a> {
+    rest: &'a [u8],
+}
+
+impl<'a> Model for Lines<'a> {
+    ghost use Rattle.std.specs.Prelude.{List, ℕ};
+
+    ghost Value = { List ℕ };
+
+    ghost view = { λ lines. lines.rest.now };
+}
+
+impl<'a> Iterator for Lines<'a> {
+    type Item = &'a [u8];
+
+    ghost next_gives = { YieldsFirstRef (λ rest. text_lines rest) };
+
+    ghost remaining = { item_count (λ rest. text_lines rest) };
+
+    fn next(&mut self) -> Option<&'a [u8]> {
+        let (line, rest) = next_line(self.rest)?;
+        self.rest = rest;
+        Some(line)
+    }
+}
+
+/// The lines of a text, without their ends.
+pub fn lines_of(text: &[u8]) -> Lines<'_>
+    ensures text { result ≡ text.now }
+    ensures few { length (text_lines text.now) ≤ length text.now }
+{
+    Lines { rest: text }
 }
 
 /// A text around its first line `---`.
