@@ -1,0 +1,8 @@
+use Rattle.std.proofs.Common.{refl}
+use Rattle.std.specs.Fmt.{digits}
+use Rattle.hex.specs.Hex.{encode_with}
+use Rattle.us_report.proofs.rows.worked_reports.Goals as goal
+
+pub returns : goal.returns
+unfolding digits encode_with
+returns c = record { nothing = refl; two = refl; every_line = refl; short = refl }
