@@ -21,11 +21,11 @@ use Rattle.us_report.specs.declared.report.Waiting.{Waiting}
 use Rattle.us_report.specs.declared.report.Report.{Report}
 
 -- three numbers with dots: a transaction's site, coordinator and number
-abbrev pub tid_text : Tid → List ℕ
+unfoldable pub tid_text : Tid → List ℕ
 tid_text t = decimal t.site ++ codes "." ++ decimal t.coord ++ codes "." ++ decimal t.seq
 
 -- a session's site, coordinator and number
-abbrev pub session_text : SessionName → List ℕ
+unfoldable pub session_text : SessionName → List ℕ
 session_text s = decimal s.site ++ codes "." ++ decimal s.coord ++ codes "." ++ decimal s.number
 
 -- an item: its space, and its id in hex
@@ -56,7 +56,7 @@ abbrev pub count_text : Count → List ℕ
 count_text c = if is_counted c then codes " " ++ session_text c.session ++ codes "=" ++ decimal c.count else []
 
 -- a past after a space: its counts above 0 in their order, or a dash where there is none
-abbrev pub past_text : List Count → List ℕ
+unfoldable pub past_text : List Count → List ℕ
 past_text past = if list_any is_counted past then flat_map count_text past else codes " -"
 
 -- whether a transaction is strong

@@ -1,8 +1,10 @@
 //! The text of a report: what a run came to, line by line.
 #![tactic(auto)]
 
+mod lines;
 mod report;
 mod rows;
+mod words;
 
 pub use report::{Refusal, Report, ReportFault, Waiting};
 pub use rows::worked_reports;
