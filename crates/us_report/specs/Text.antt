@@ -16,6 +16,7 @@ use Rattle.us_exec.specs.declared.LooseEnd.{LooseEnd}
 use Rattle.us_exec.specs.declared.LooseEnd.TheVariants as end
 use Rattle.us_exec.specs.declared.Loose.{Loose}
 use Rattle.us_exec.specs.declared.Link.{Link}
+use Rattle.us_exec.specs.declared.Execution.{Execution}
 use Rattle.us_report.specs.declared.report.Refusal.{Refusal}
 use Rattle.us_report.specs.declared.report.Waiting.{Waiting}
 use Rattle.us_report.specs.declared.report.Report.{Report}
@@ -106,19 +107,28 @@ is_aborted end.Left = false
 abbrev pub aborted_count : List Loose → ℕ
 aborted_count ls = count_by (λ l. is_aborted l.end) ls
 
+-- how many transactions and links an execution has
+unfoldable pub counts_text : Execution → List ℕ
+counts_text x =
+    codes "committed " ++ decimal (length x.entries) ++ codes " strong " ++ decimal (strong_count x.entries)
+    ++ codes " aborted " ++ decimal (aborted_count x.loose) ++ codes " loose " ++ decimal (length x.loose)
+    ++ codes " links " ++ decimal (length x.links)
+
 -- the last line: how many there are of each
 abbrev pub summary_text : Report → List ℕ
 summary_text r =
-    codes "committed " ++ decimal (length r.execution.entries) ++ codes " strong " ++ decimal (strong_count r.execution.entries)
-    ++ codes " aborted " ++ decimal (aborted_count r.execution.loose) ++ codes " loose " ++ decimal (length r.execution.loose)
-    ++ codes " links " ++ decimal (length r.execution.links) ++ codes " refused " ++ decimal (length r.refused)
-    ++ codes " waiting " ++ decimal (length r.waiting) ++ codes "\n"
+    counts_text r.execution ++ codes " refused " ++ decimal (length r.refused) ++ codes " waiting " ++ decimal (length r.waiting)
+    ++ codes "\n"
 
--- THE REPORT: committed transactions, the others, links, refusals, waiting sessions, and the last line
-abbrev pub report_text : Report → List ℕ
-report_text r =
+-- all lines but the last: committed transactions, the others, links, refusals and waiting sessions
+abbrev pub lines_text : Report → List ℕ
+lines_text r =
     flat_map entry_text r.execution.entries ++ flat_map loose_text r.execution.loose ++ flat_map link_text r.execution.links
-    ++ flat_map refusal_text r.refused ++ flat_map waiting_text r.waiting ++ summary_text r
+    ++ flat_map refusal_text r.refused ++ flat_map waiting_text r.waiting
+
+-- THE REPORT: all lines
+abbrev pub report_text : Report → List ℕ
+report_text r = lines_text r ++ summary_text r
 
 -- the short report: the last line alone
 abbrev pub short_text : Report → List ℕ

@@ -5,6 +5,8 @@ mod lines;
 mod report;
 mod rows;
 mod words;
+mod writing;
 
 pub use report::{Refusal, Report, ReportFault, Waiting};
 pub use rows::worked_reports;
+pub use writing::write_report;

@@ -2,8 +2,8 @@ ghost use Rattle.std.specs.Prelude.{◌≡◌, ◌++◌, OnOk, string_bytes, Lis
 ghost use Rattle.std.specs.List.{flat_map, list_any};
 ghost use Rattle.us_report.specs.Text.{past_text, count_text, is_counted};
 
-use crate::words::{AnswerText, ItemText, OpText, SessionText, TidText, end_word, kind_word};
-use crate::{Refusal, Waiting};
+use crate::words::{AnswerText, CountsText, ItemText, OpText, SessionText, TidText, end_word, kind_word};
+use crate::{Refusal, Report, Waiting};
 use std::alloc::AllocError;
 use us_exec::{Count, Done, Entry, Link, Loose};
 
@@ -16,6 +16,10 @@ pub trait Lines {
     fn push(&self, line: &mut String) -> Result<(), AllocError>
         ensures { OnOk result (string_bytes line.new ≡ string_bytes line.old ++ text self.now) };
 }
+
+/// The last line of a report.
+#[derive(Clone, Copy)]
+pub struct Summary<'a>(pub &'a Report);
 
 /// Adds the lines of each.
 fn push_each<T: Lines>(line: &mut String, items: &[T]) -> Result<(), AllocError>
@@ -158,5 +162,21 @@ impl Lines for Waiting {
 
     fn push(&self, line: &mut String) -> Result<(), AllocError> {
         writeln!(line, "w {} {}", SessionText(self.session), self.at)
+    }
+}
+
+impl Lines for Summary<'_> {
+    ghost use Rattle.us_report.specs.Text.{summary_text};
+
+    ghost text = { λ summary. summary_text summary.0.now };
+
+    fn push(&self, line: &mut String) -> Result<(), AllocError> {
+        writeln!(
+            line,
+            "{} refused {} waiting {}",
+            CountsText(&self.0.execution),
+            self.0.refused.len(),
+            self.0.waiting.len()
+        )
     }
 }

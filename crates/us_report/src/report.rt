@@ -1,3 +1,10 @@
+ghost use Rattle.std.specs.Prelude.{◌≡◌};
+ghost use Rattle.us_report.specs.declared.report.ReportFault.TheVariants as reporting;
+
+use std::alloc::AllocError;
+use std::error::Error;
+use std::fmt;
+use us_edge::Failed;
 use us_exec::{Execution, SessionName};
 use us_kind::Items;
 
@@ -32,4 +39,31 @@ pub enum ReportFault {
     Failed,
     /// Want of memory.
     Memory,
+}
+
+impl fmt::Display for ReportFault {
+    fn fmt<W: fmt::Write>(&self, f: &mut fmt::Formatter<W>) -> fmt::Result {
+        f.write_str(match self {
+            ReportFault::Failed => "the report was not written",
+            ReportFault::Memory => "out of memory",
+        })
+    }
+}
+
+impl Error for ReportFault {}
+
+impl From<AllocError> for ReportFault {
+    ghost from_gives = { λ _ fault. fault ≡ reporting.Memory };
+
+    fn from(_error: AllocError) -> ReportFault {
+        ReportFault::Memory
+    }
+}
+
+impl From<Failed> for ReportFault {
+    ghost from_gives = { λ _ fault. fault ≡ reporting.Failed };
+
+    fn from(_failed: Failed) -> ReportFault {
+        ReportFault::Failed
+    }
 }

@@ -1,5 +1,8 @@
+ghost use Rattle.std.specs.Prelude.{◌≡◌};
+ghost use Rattle.us_report.specs.Text.{kind_text, end_text, strong_count, is_aborted, aborted_count};
+
 use std::fmt;
-use us_exec::{LooseEnd, SessionName};
+use us_exec::{Entry, Execution, Loose, LooseEnd, SessionName};
 use us_kind::Tid;
 use us_value::{Answer, Item, Op};
 
@@ -26,6 +29,10 @@ pub struct OpText<'a>(pub &'a Op);
 /// An answer as it is printed.
 #[derive(Clone, Copy)]
 pub struct AnswerText<'a>(pub &'a Answer);
+
+/// How many transactions and links an execution has.
+#[derive(Clone, Copy)]
+pub struct CountsText<'a>(pub &'a Execution);
 
 impl fmt::Display for TidText {
     ghost use Rattle.std.specs.Prelude.{Some};
@@ -105,8 +112,26 @@ impl fmt::Display for AnswerText<'_> {
     }
 }
 
-ghost use Rattle.std.specs.Prelude.{◌≡◌};
-ghost use Rattle.us_report.specs.Text.{kind_text, end_text};
+impl fmt::Display for CountsText<'_> {
+    ghost use Rattle.std.specs.Prelude.{Some};
+    ghost use Rattle.us_report.specs.Text.{counts_text};
+
+    ghost output = { λ a. Some (counts_text a.0.now) };
+
+    #[tactic(auto, unfolding(crate::specs::Text::counts_text))]
+    fn fmt<W: fmt::Write>(&self, f: &mut fmt::Formatter<W>) -> fmt::Result {
+        let execution = self.0;
+        write!(
+            f,
+            "committed {} strong {} aborted {} loose {} links {}",
+            execution.entries.len(),
+            strong_count(execution.entries.as_slice()),
+            aborted_count(execution.loose.as_slice()),
+            execution.loose.len(),
+            execution.links.len()
+        )
+    }
+}
 
 /// Whether a transaction is strong, as it is printed.
 pub fn kind_word(strong: bool) -> &'static str
@@ -123,4 +148,27 @@ pub fn end_word(end: LooseEnd) -> &'static str
         LooseEnd::Open => "open",
         LooseEnd::Left => "left",
     }
+}
+
+/// How many of the transactions are strong.
+fn strong_count(entries: &[Entry]) -> usize
+    ensures { result ≡ strong_count entries.now }
+{
+    entries.iter().filter(|entry| entry.strong).count()
+}
+
+/// Whether the transaction was aborted; no end says so yet.
+fn is_aborted(end: LooseEnd) -> bool
+    ensures { result ≡ is_aborted end }
+{
+    match end {
+        LooseEnd::Open | LooseEnd::Left => false,
+    }
+}
+
+/// How many of the transactions were aborted.
+fn aborted_count(loose: &[Loose]) -> usize
+    ensures { result ≡ aborted_count loose.now }
+{
+    loose.iter().filter(|one| is_aborted(one.end)).count()
 }
