@@ -1,7 +1,9 @@
 //! What a user gets: an execution of transactions, and what it means that it is consistent.
 #![tactic(auto)]
 
-use us_kind::{Items, Tid};
+ghost use Rattle.std.specs.Prelude.{◌≡◌, IfOk};
+
+use us_kind::{Items, Memory, Tid};
 use us_value::{Answer, Item, Op};
 
 /// A session: the site and the coordinator that it was opened at, and its number there, from 1.
@@ -18,6 +20,18 @@ pub struct Done {
     pub item: Item,
     pub op: Op,
     pub answer: Answer,
+}
+
+impl Done {
+    pub fn copy(&self) -> Result<Done, Memory>
+        ensures { IfOk result (λ copy. copy ≡ self.now) }
+    {
+        Ok(Done {
+            item: self.item.copy()?,
+            op: self.op.copy()?,
+            answer: self.answer.copy()?,
+        })
+    }
 }
 
 /// Of a session, so many of its committed transactions, the first of them first.
