@@ -1,4 +1,4 @@
-pub mod Permutations
 pub mod ListLemmas
+pub mod Permutations
 pub mod SameBytes
 pub mod TestLemmas
