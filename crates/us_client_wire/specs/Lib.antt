@@ -2,3 +2,4 @@ pub mod Fields
 pub mod Requests
 pub mod Reading
 pub mod Replies
+pub mod Laws
