@@ -2,3 +2,5 @@ pub mod Faults
 pub mod Streams
 pub mod Numbers
 pub mod Scripts
+pub mod Links
+pub mod Sure

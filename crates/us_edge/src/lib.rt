@@ -16,12 +16,13 @@ mod reading;
 mod sink;
 mod source;
 mod sure;
+mod sure_links;
 mod text;
 mod writing;
 
 pub use clock::Clock;
 pub use faults::{Failed, PollFault, ReadAllFault, StartFault};
-pub use links::{LinkInput, Links, Plan};
+pub use links::{Dropped, LinkInput, Links, Offer, Outcome, Plan};
 pub use list_clock::ListClock;
 pub use memory_sink::MemorySink;
 pub use memory_source::MemorySource;
@@ -29,5 +30,9 @@ pub use reading::read_all;
 pub use sink::Sink;
 pub use source::Source;
 pub use sure::{SureSink, SureSource};
+pub use sure_links::SureLinks;
 pub use text::Text;
 pub use writing::write_all;
+
+#[cfg(test)]
+mod tests;

@@ -12,3 +12,6 @@ pub use write_fields::{put_i64, put_i128, put_u8, put_u16, put_u32, put_u64, put
 
 /// How many bytes a value has at most.
 pub const LONGEST_VALUE: usize = 1024;
+
+#[cfg(test)]
+mod tests;
