@@ -43,7 +43,7 @@ bind_ok (Ok x) f y e = (x, refl, e)
 bind_ok (Err d) f y e = absurd cc
 
 -- the test of a word's name went either way
-chosen : {A : Type 0} (b : Bool) (x y z : Result A LineFault) → cond b x y ≡ z → ((b ≡ true) × (x ≡ z)) ⊎ ((b ≡ false) × (y ≡ z))
+pub chosen : {A : Type 0} (b : Bool) (x y z : Result A LineFault) → cond b x y ≡ z → ((b ≡ true) × (x ≡ z)) ⊎ ((b ≡ false) × (y ≡ z))
 chosen true x y z e = inl (refl, e)
 chosen false x y z e = inr (refl, e)
 
@@ -123,7 +123,7 @@ bytes_ok shape a b c d line e =
     let P : Line → Type 0 = λ l. IsRead shape (codes "bytes" ∷ a ∷ b ∷ c ∷ d ∷ []) l in
     subst P w.1 (record { spelled = spelled; allowed = record { ranges = w.0; bytes = h.fits } })
 
-named : (name lit : List ℕ) → bytes_eq name lit ≡ true → name ≡ lit
+pub named : (name lit : List ℕ) → bytes_eq name lit ≡ true → name ≡ lit
 named name lit e = (bytes_eq-Decides name lit).0 e
 
 plain : {name numbers : List ℕ} {line : Line} → words_of line ≡ name ∷ map decimal numbers → bytes_of line ≡ [] → IsPlain name numbers line

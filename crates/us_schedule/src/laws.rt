@@ -1,4 +1,4 @@
-ghost use Rattle.us_schedule.specs.Lines.{WrittenIsRead, ReadIsWritten};
+ghost use Rattle.us_schedule.specs.Lines.{WrittenIsRead, ReadIsWritten, RefusedIsFirst};
 
 /// A line that the grammar allows is read as itself from the text that is written of it.
 pub fn written_line_is_read()
@@ -9,3 +9,9 @@ pub fn written_line_is_read()
 pub fn read_line_is_written()
     ensures { ReadIsWritten }
 {}
+
+/// A line is refused for the first of the four faults that holds.
+pub fn refused_line_has_first_fault()
+    ensures { RefusedIsFirst }
+{
+}
