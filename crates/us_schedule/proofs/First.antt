@@ -1,5 +1,5 @@
 -- A line is refused for the first fault that holds.
-use Rattle.std.proofs.Common.{◌≡◌, ℕ, ◌+◌, ◌<◌, ◌≤◌, Bool, true, false, cond, eqb, ◌&&◌, ◌||◌, not, ◌⊎◌, inl, inr, List, [], ◌∷◌, length, Option, Some, None, Result, Ok, Err, is_ok, refl, sym, ap, ◌∙◌, subst, arith}
+use Rattle.std.proofs.Common.{◌≡◌, ℕ, ◌<◌, Bool, true, false, cond, ◌&&◌, ◌||◌, not, inl, inr, List, [], ◌∷◌, length, Option, Some, None, Result, Ok, Err, is_ok, refl, sym, ap, ◌∙◌, subst, arith}
 use Rattle.std.specs.Prelude.{◌==◌, codes}
 use Rattle.std.specs.List.{slice_split}
 use Rattle.std.specs.Str.{bytes_eq}
@@ -10,7 +10,7 @@ use Rattle.us_schedule.specs.declared.fault.LineFault.{LineFault}
 use Rattle.us_schedule.specs.declared.fault.LineFault.TheVariants as fault
 use Rattle.us_schedule.specs.declared.line.Line.{Line}
 use Rattle.us_schedule.specs.declared.line.Line.TheVariants.{Open, Bytes, Close, Tick, Deliver, Flush, Lead, Forward, Crash, Settle}
-use Rattle.us_schedule.specs.Lines.{◌>>=◌, number_in, has_leading_zero, or_bad_number, number, hex_of, hex, within, in_range, one, two, three, three_and_hex, said_by_one, said_by_two, said_by_three, said_by_four, said, Read, Skipped, Found, Refused, read_of, is_skipped, line_read, is_form, first_fault, RefusedIsFirst}
+use Rattle.us_schedule.specs.Lines.{◌>>=◌, number_in, has_leading_zero, or_bad_number, number, hex_of, hex, within, in_range, one, two, three, three_and_hex, said_by_one, said_by_two, said_by_three, said_by_four, said, Read, Skipped, Refused, read_of, is_skipped, is_form, first_fault, RefusedIsFirst}
 use Rattle.us_schedule.proofs.Grammar.{chosen, named}
 
 -- the only fault of a step

@@ -1,4 +1,3 @@
-mod Rows
 pub mod Digits
 pub mod Words
 pub mod Grammar

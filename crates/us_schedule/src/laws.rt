@@ -1,3 +1,4 @@
+ghost use Rattle.us_schedule.specs.Rows.{WorkedLines};
 ghost use Rattle.us_schedule.specs.Lines.{WrittenIsRead, ReadIsWritten, RefusedIsFirst};
 
 /// A line that the grammar allows is read as itself from the text that is written of it.
@@ -13,5 +14,9 @@ pub fn read_line_is_written()
 /// A line is refused for the first of the four faults that holds.
 pub fn refused_line_has_first_fault()
     ensures { RefusedIsFirst }
-{
-}
+{}
+
+/// The definitions give what was worked by hand.
+pub fn worked_lines()
+    ensures { WorkedLines }
+{}
