@@ -1,6 +1,10 @@
 //! Shapes and vectors.
 #![tactic(auto)]
 
+mod place;
 mod shape;
+mod vector;
 
+pub use place::partition_of;
 pub use shape::Shape;
+pub use vector::Vector;

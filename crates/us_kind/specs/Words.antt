@@ -1,11 +1,19 @@
 -- Words on lists, bytes and identities.
-use Rattle.std.specs.Prelude.{◌≡◌, ℕ, List, [], ◌∷◌, Bool, true, false, ◌&&◌, ◌||◌, ◌⊎◌, ◌==◌, nat_lt}
+use Rattle.std.specs.Prelude.{◌≡◌, ℕ, List, [], ◌∷◌, Bool, true, false, ◌&&◌, ◌||◌, ◌⊎◌, ◌==◌, nat_lt, Option, Some, None}
 use Rattle.us_kind.specs.declared.identity.Tid.{Tid}
+use Rattle.us_kind.specs.declared.identity.Tag.{Tag}
+use Rattle.us_kind.specs.declared.identity.Stamp.{Stamp}
 
 -- x is one of these
 abbrev pub In : {X : Type 0} → X → List X → Type 0
 In x [] = ⊥
 In x (y ∷ ys) = (y ≡ x) ⊎ In x ys
+
+-- the last of a list
+abbrev pub last_of : {X : Type 0} → List X → Option X
+last_of [] = None
+last_of (x ∷ []) = Some x
+last_of (x ∷ y ∷ xs) = last_of (y ∷ xs)
 
 -- the same bytes
 abbrev pub bytes_eq : List ℕ → List ℕ → Bool
@@ -31,3 +39,20 @@ tid_eq a b = (a.site == b.site) && ((a.coord == b.coord) && (a.seq == b.seq))
 -- by site, coordinator and number
 abbrev pub tid_less : Tid → Tid → Bool
 tid_less a b = lex a.site b.site (lex a.coord b.coord (nat_lt a.seq b.seq))
+
+-- the same update
+abbrev pub tag_eq : Tag → Tag → Bool
+tag_eq a b = tid_eq a.tid b.tid && (a.place == b.place)
+
+-- the update that a stamp is of
+abbrev pub tag_of : Stamp → Tag
+tag_of s = record { tid = s.tid; place = s.place }
+
+-- the first stamp stands before the second, or they are equal and the rest decides
+abbrev pub stamp_lex : Stamp → Stamp → Bool → Bool
+stamp_lex a b rest =
+    lex a.sum b.sum (lex a.tid.site b.tid.site (lex a.tid.coord b.tid.coord (lex a.tid.seq b.tid.seq (lex a.place b.place rest))))
+
+-- the arbitration order: by sum, transaction and place
+abbrev pub stamp_less : Stamp → Stamp → Bool
+stamp_less a b = stamp_lex a b false

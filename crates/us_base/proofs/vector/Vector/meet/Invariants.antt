@@ -1,0 +1,7 @@
+use Rattle.std.proofs.Common.{◌≡◌, ◌≤◌, ℕ, ◌<◌, min, get_or}
+use Rattle.us_base.proofs.vector.Vector.meet.Given as goal
+
+abbrev pub invariant-loop-i : goal.invariant-loop-i
+invariant-loop-i l =
+    ((k : ℕ) → k < l.i → get_or l.entry-items k 0 ≡ min (get_or l.initial.entry-items k 0) (get_or l.other-inside.entries k 0))
+    × ((k : ℕ) → l.i ≤ k → get_or l.entry-items k 0 ≡ get_or l.initial.entry-items k 0)

@@ -1,0 +1,55 @@
+-- Consistency: closed, valued, ordered.
+use Rattle.std.specs.Prelude.{◌≡◌, ℕ, ◌<◌, ◌≤◌, List, [], ◌∷◌, Bool, true, false, ◌⊎◌}
+use Rattle.std.specs.List.{list_any}
+use Rattle.us_kind.specs.Words.{In, tid_eq}
+use Rattle.us_kind.specs.declared.identity.Tid.{Tid}
+use Rattle.us_exec.specs.declared.SessionName.{SessionName}
+use Rattle.us_exec.specs.declared.Count.{Count}
+use Rattle.us_exec.specs.declared.Done.{Done}
+use Rattle.us_exec.specs.declared.Entry.{Entry}
+use Rattle.us_exec.specs.declared.Loose.{Loose}
+use Rattle.us_exec.specs.declared.Link.{Link}
+use Rattle.us_exec.specs.declared.Execution.{Execution}
+use Rattle.us_exec.specs.Past.{is_before}
+use Rattle.us_exec.specs.Values.{HaveValues}
+
+-- CLOSED, for one transaction of this session with this past
+pub record IsClosedPast (x : Execution) (session : SessionName) (past : List Count) : Type 0 where
+  -- for each link of its session, the first transactions of the other session are before it
+  pub linked : (l : Link) (e : Entry) → In l x.links → In e x.entries → l.session ≡ session → e.session ≡ l.from → e.number ≤ l.count → is_before e past ≡ true
+  -- whatever is before a transaction that is before it is before it
+  pub closed : (d e : Entry) → In d x.entries → In e x.entries → is_before d e.past ≡ true → is_before e past ≡ true → is_before d past ≡ true
+
+-- c stands earlier than d
+abbrev pub StandsBefore : Entry → Entry → List Entry → Type 0
+StandsBefore c d [] = ⊥
+StandsBefore c d (x ∷ xs) = ((x ≡ c) × In d xs) ⊎ StandsBefore c d xs
+
+pub record IsClosed (x : Execution) : Type 0 where
+  pub entries : (e : Entry) → In e x.entries → IsClosedPast x e.session e.past
+  pub loose : (l : Loose) → In l x.loose → IsClosedPast x l.session l.past
+  -- every committed transaction that its session had before it is before it
+  pub session : (d e : Entry) → In d x.entries → In e x.entries → d.session ≡ e.session → d.number < e.number → is_before d e.past ≡ true
+  pub loose_session : (d : Entry) (l : Loose) → In d x.entries → In l x.loose → d.session ≡ l.session → d.tid.seq < l.tid.seq → is_before d l.past ≡ true
+  -- what is before a committed transaction stands earlier
+  pub earlier : (d e : Entry) → In d x.entries → In e x.entries → is_before d e.past ≡ true → StandsBefore d e x.entries
+
+-- VALUED: the transactions that aren't committed too
+pub record IsValued (x : Execution) : Type 0 where
+  pub entries : (e : Entry) → In e x.entries → HaveValues x.entries e.tid e.past [] e.ops
+  pub loose : (l : Loose) → In l x.loose → HaveValues x.entries l.tid l.past [] l.ops
+
+-- some operation of the one conflicts with some operation of the other, as declared
+abbrev pub conflict : (Done → Done → Bool) → List Done → List Done → Bool
+conflict declared xs ys = list_any (λ a. list_any (λ b. declared a b) ys) xs
+
+-- ORDERED: of two strong transactions that conflict, one is before the other
+pub record IsOrdered (declared : Done → Done → Bool) (x : Execution) : Type 0 where
+  pub ordered : (d e : Entry) → In d x.entries → In e x.entries → tid_eq d.tid e.tid ≡ false → d.strong ≡ true → e.strong ≡ true
+      → conflict declared d.ops e.ops ≡ true → (is_before d e.past ≡ true) ⊎ (is_before e d.past ≡ true)
+
+-- CONSISTENT, by declared conflicts and without a clause on progress
+pub record IsPor (declared : Done → Done → Bool) (x : Execution) : Type 0 where
+  pub closed : IsClosed x
+  pub valued : IsValued x
+  pub ordered : IsOrdered declared x

@@ -1,0 +1,88 @@
+//! What a user gets: an execution of transactions, and what it means that it is consistent.
+#![tactic(auto)]
+
+ghost use Rattle.std.specs.Prelude.{◌≡◌, IfOk};
+
+use us_kind::{Items, Memory, Tid};
+use us_value::{Answer, Item, Op};
+
+/// A session: the site and the coordinator that it was opened at, and its number there, from 1.
+#[derive(Clone, Copy, Debug, PartialEq, Eq, PartialOrd, Ord, Hash)]
+pub struct SessionName {
+    pub site: u8,
+    pub coord: u8,
+    pub number: u64,
+}
+
+/// An operation that was answered.
+#[derive(Drop)]
+pub struct Done {
+    pub item: Item,
+    pub op: Op,
+    pub answer: Answer,
+}
+
+impl Done {
+    pub fn copy(&self) -> Result<Done, Memory>
+        ensures { IfOk result (λ copy. copy ≡ self.now) }
+    {
+        Ok(Done {
+            item: self.item.copy()?,
+            op: self.op.copy()?,
+            answer: self.answer.copy()?,
+        })
+    }
+}
+
+/// Of a session, so many of its committed transactions, the first of them first.
+#[derive(Clone, Copy, Debug, PartialEq, Eq)]
+pub struct Count {
+    pub session: SessionName,
+    pub count: u64,
+}
+
+/// A committed transaction, the `number`-th of its session, from 1. `past` counts, per session, ascending
+/// and above 0, the transactions that are before it.
+#[derive(Drop)]
+pub struct Entry {
+    pub tid: Tid,
+    pub session: SessionName,
+    pub number: u64,
+    pub strong: bool,
+    pub ops: Items<Done>,
+    pub past: Items<Count>,
+}
+
+/// How a transaction stands that was begun and isn't committed.
+#[derive(Clone, Copy, Debug, PartialEq, Eq)]
+pub enum LooseEnd {
+    Open,
+    Left,
+}
+
+/// A transaction that was begun and isn't committed.
+#[derive(Drop)]
+pub struct Loose {
+    pub tid: Tid,
+    pub session: SessionName,
+    pub end: LooseEnd,
+    pub ops: Items<Done>,
+    pub past: Items<Count>,
+}
+
+/// The session goes on after the first `count` committed transactions of another one.
+#[derive(Clone, Copy, Debug, PartialEq, Eq)]
+pub struct Link {
+    pub session: SessionName,
+    pub from: SessionName,
+    pub count: u64,
+}
+
+/// An execution: the committed transactions in arbitration order, the others in order of beginning, and the
+/// links between sessions in order of attaching.
+#[derive(Drop)]
+pub struct Execution {
+    pub entries: Items<Entry>,
+    pub loose: Items<Loose>,
+    pub links: Items<Link>,
+}

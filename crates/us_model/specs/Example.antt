@@ -1,0 +1,66 @@
+-- A worked run: a session writes an item, reads it in the same transaction and again in the next.
+use Rattle.std.specs.Prelude.{ℕ, List, [], ◌∷◌, ◌++◌, false}
+use Rattle.us_value.specs.declared.item.Item.{Item}
+use Rattle.us_value.specs.declared.operation.Op.TheVariants.{RegisterRead, RegisterWrite}
+use Rattle.us_value.specs.declared.operation.Answer.TheVariants as answer
+use Rattle.us_exec.specs.declared.SessionName.{SessionName}
+use Rattle.us_exec.specs.declared.Done.{Done}
+use Rattle.us_exec.specs.declared.Execution.{Execution}
+use Rattle.us_model.specs.Worlds.{Happening, Opens, Sends, Comes}
+
+-- frames of the client
+abbrev pub begin_frame : List ℕ
+begin_frame = 0 ∷ 0 ∷ 0 ∷ 2 ∷ 1 ∷ 1 ∷ []
+
+abbrev pub commit_frame : List ℕ
+commit_frame = 0 ∷ 0 ∷ 0 ∷ 2 ∷ 1 ∷ 3 ∷ []
+
+abbrev pub read_frame : List ℕ
+read_frame = 0 ∷ 0 ∷ 0 ∷ 6 ∷ 1 ∷ 2 ∷ 1 ∷ 1 ∷ 97 ∷ 1 ∷ []
+
+abbrev pub write_frame : List ℕ
+write_frame = 0 ∷ 0 ∷ 0 ∷ 9 ∷ 1 ∷ 2 ∷ 1 ∷ 1 ∷ 97 ∷ 2 ∷ 0 ∷ 1 ∷ 120 ∷ []
+
+abbrev pub example : List Happening
+example =
+    Opens 1 1 ∷ Sends 1 1 1 (begin_frame ++ write_frame) ∷ Comes 1 ∷ Comes 2
+    ∷ Sends 1 1 1 (read_frame ++ commit_frame) ∷ Comes 3 ∷ Comes 4 ∷ Comes 5 ∷ Comes 6 ∷ Comes 7
+    ∷ Sends 1 1 1 (begin_frame ++ read_frame ++ commit_frame) ∷ Comes 8 ∷ Comes 9 ∷ []
+
+abbrev pub example_item : Item
+example_item = record { space = 1; id = 97 ∷ [] }
+
+abbrev pub example_session : SessionName
+example_session = record { site = 1; coord = 1; number = 1 }
+
+abbrev pub example_write : Done
+example_write = record { item = example_item; op = RegisterWrite (120 ∷ []); answer = answer.Done }
+
+abbrev pub example_read : Done
+example_read = record { item = example_item; op = RegisterRead; answer = answer.Value (120 ∷ []) }
+
+-- what it comes to, worked by hand from the rules
+abbrev pub example_execution : Execution
+example_execution =
+    record {
+      entries =
+          record {
+            tid = record { site = 1; coord = 1; seq = 1 };
+            session = example_session;
+            number = 1;
+            strong = false;
+            ops = example_write ∷ example_read ∷ [];
+            past = [];
+          }
+          ∷ record {
+            tid = record { site = 1; coord = 1; seq = 2 };
+            session = example_session;
+            number = 2;
+            strong = false;
+            ops = example_read ∷ [];
+            past = record { session = example_session; count = 1 } ∷ [];
+          }
+          ∷ [];
+      loose = [];
+      links = [];
+    }

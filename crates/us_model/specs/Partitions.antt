@@ -1,0 +1,140 @@
+-- The rules of a partition. Each takes the partition's own actor.
+use Rattle.std.specs.Prelude.{ℕ, ◌+◌, ◌-◌, ◌^◌, ◌%◌, List, [], ◌∷◌, ◌++◌, Bool, true, false, not, ◌&&◌, if◌then◌else◌, nat_le, Option, Some, None, max, min, filter, position, remove, slice_get}
+use Rattle.std.specs.List.{list_any}
+use Rattle.us_kind.specs.Words.{tid_eq}
+use Rattle.us_kind.specs.declared.identity.Tid.{Tid}
+use Rattle.us_base.specs.Vector.{entry, at_most, with_entry, sum_of}
+use Rattle.us_value.specs.declared.item.Item.{Item}
+use Rattle.us_value.specs.declared.item.Write.{Write}
+use Rattle.us_value.specs.declared.operation.Kind.{Kind}
+use Rattle.us_value.specs.declared.operation.Kind.TheVariants.{Register}
+use Rattle.us_value.specs.declared.operation.Effect.{Effect}
+use Rattle.us_value.specs.declared.operation.State.{State}
+use Rattle.us_value.specs.Items.{item_eq}
+use Rattle.us_value.specs.Values.{initial, updated, answered, prepared as prepared_effect}
+use Rattle.us_peer_wire.specs.declared.message.Actor.{Actor}
+use Rattle.us_peer_wire.specs.declared.message.Packet.{Packet}
+use Rattle.us_peer_wire.specs.declared.message.Message.TheVariants.{Version as VersionMessage}
+use Rattle.us_peer_wire.specs.declared.message.Form.TheVariants.{Answered}
+use Rattle.us_model.specs.declared.partition.LogTx.{LogTx}
+use Rattle.us_model.specs.declared.partition.PreparedTx.{PreparedTx}
+use Rattle.us_model.specs.declared.partition.Get.{Get}
+use Rattle.us_model.specs.State.{Partition}
+
+-- KNOWN: up to which timestamps the partition's log is complete
+abbrev pub least_ts : ℕ → List PreparedTx → ℕ
+least_ts n [] = n
+least_ts n (q ∷ qs) = min q.ts (least_ts n qs)
+
+-- below every timestamp that is prepared here or given later
+unfoldable pub own_known : ℕ → List PreparedTx → ℕ
+own_known clock [] = clock
+own_known clock (q ∷ qs) = least_ts q.ts qs - 1
+
+abbrev pub known : Actor → Partition → List ℕ
+known me p = with_entry p.got me.site (own_known p.clock p.prepared)
+
+-- what snapshots begin with: with one partition at one site it is what the partition knows
+abbrev pub base : Actor → Partition → List ℕ
+base me p = known me p
+
+-- GET: the clock rises to the snapshot, and the question waits. The one partition keeps every item, and no floor is raised
+abbrev pub get : Actor → Partition → Get → Partition
+get me p g = record p { clock = max p.clock (entry g.snapshot me.site); parked = p.parked ++ g ∷ [] }
+
+-- PREPARE
+-- the least number above n that leaves the remainder r modulo 64
+unfoldable pub next_timestamp : ℕ → ℕ → ℕ
+next_timestamp r n = n + 1 + ((r + 64 - (n + 1) % 64) % 64)
+
+abbrev pub contains_tid : Tid → List Tid → Bool
+contains_tid tid tids = list_any (λ t. tid_eq t tid) tids
+
+abbrev pub timestamp_for : Actor → Partition → List ℕ → ℕ
+timestamp_for me p snapshot = next_timestamp me.actor (max p.clock (entry snapshot me.site))
+
+abbrev pub may_prepare : Actor → Partition → Tid → List ℕ → Bool
+may_prepare me p tid snapshot = not (contains_tid tid p.done) && nat_le (timestamp_for me p snapshot) (2 ^ 62)
+
+abbrev pub prepared : Actor → Partition → Tid → List ℕ → List Write → Partition
+prepared me p tid snapshot writes =
+    record p {
+      clock = timestamp_for me p snapshot;
+      prepared = p.prepared ++ record { tid = tid; ts = timestamp_for me p snapshot; snapshot = snapshot; writes = writes } ∷ [];
+      done = p.done ++ tid ∷ [];
+    }
+
+-- COMMIT: the transaction moves to the log
+abbrev pub is_of : Tid → PreparedTx → Bool
+is_of tid q = tid_eq q.tid tid
+
+abbrev pub committed : Actor → Partition → List ℕ → ℕ → PreparedTx → Partition
+committed me p vector i q =
+    record p {
+      clock = max p.clock (entry vector me.site);
+      log = p.log ++ record { tid = q.tid; strong = false; vector = vector; writes = q.writes } ∷ [];
+      prepared = remove p.prepared i;
+    }
+
+abbrev pub commit_one : Actor → Partition → List ℕ → ℕ → Option PreparedTx → Partition
+commit_one me p vector i None = p
+commit_one me p vector i (Some q) = if nat_le q.ts (entry vector me.site) then committed me p vector i q else p
+
+abbrev pub commit_at : Actor → Partition → List ℕ → Option ℕ → Partition
+commit_at me p vector None = p
+commit_at me p vector (Some i) = commit_one me p vector i (slice_get p.prepared i)
+
+abbrev pub commit : Actor → Partition → Tid → List ℕ → Partition
+commit me p tid vector = commit_at me p vector (position (is_of tid) p.prepared)
+
+-- THE VERSION OF AN ITEM: the log's writes on it with vectors at most the snapshot, applied under their stamps
+abbrev pub after_writes : Item → ℕ → Tid → State → List Write → State
+after_writes item sum tid s [] = s
+after_writes item sum tid s (w ∷ ws) =
+    after_writes item sum tid
+    (if item_eq w.item item then updated s w.effect (record { sum = sum; tid = tid; place = w.place }) else s) ws
+
+abbrev pub after_log : Item → List ℕ → State → List LogTx → State
+after_log item snapshot s [] = s
+after_log item snapshot s (t ∷ ts) =
+    after_log item snapshot (if at_most t.vector snapshot then after_writes item (sum_of t.vector) t.tid s t.writes else s) ts
+
+-- the sum under which a transaction's own effects count: above every other
+abbrev pub own_sum : ℕ
+own_sum = 340282366920938463463374607431768211455
+
+-- then the transaction's own effects
+abbrev pub after_own : Tid → State → List (ℕ × Effect) → State
+after_own tid s [] = s
+after_own tid s (e ∷ es) = after_own tid (updated s e.1 (record { sum = own_sum; tid = tid; place = e.0 })) es
+
+-- every space is of registers at this stage
+abbrev pub kind_of : ℕ → Kind
+kind_of space = Register
+
+unfoldable pub state_for : List LogTx → Get → State
+state_for log g = after_own g.tid (after_log g.item g.snapshot (initial (kind_of g.item.space)) log) g.own
+
+-- WAKE, the partition's part: the questions whose snapshot is known are answered
+abbrev pub may_answer : List ℕ → Get → Bool
+may_answer known g = at_most g.snapshot known
+
+abbrev pub version_for : Actor → List LogTx → Get → Packet
+version_for me log g =
+    record {
+      from = me;
+      to = record { site = me.site; actor = g.from };
+      message = VersionMessage (record {
+        tid = g.tid;
+        place = g.place;
+        at = g.at;
+        form = Answered (answered g.op (state_for log g)) (prepared_effect (record { tid = g.tid; place = g.place }) g.op (state_for log g));
+      });
+    }
+
+abbrev pub versions : Actor → List ℕ → List LogTx → List Get → List Packet
+versions me known log [] = []
+versions me known log (g ∷ gs) = if may_answer known g then version_for me log g ∷ versions me known log gs else versions me known log gs
+
+abbrev pub still_parked : List ℕ → List Get → List Get
+still_parked known gs = filter (λ g. not (may_answer known g)) gs

@@ -1,0 +1,156 @@
+-- One step of a site: an event is taken by one of its actors, which then wakes.
+use Rattle.std.specs.Prelude.{ℕ, ◌+◌, ◌-◌, List, [], ◌∷◌, ◌++◌, length, Bool, true, false, ◌&&◌, ◌==◌, if◌then◌else◌, nat_lt, Option, Some, None, slice_get, slice_set}
+use Rattle.us_base.specs.Vector.{zero}
+use Rattle.us_value.specs.declared.item.Item.{Item}
+use Rattle.us_value.specs.declared.item.Write.{Write}
+use Rattle.us_wire.specs.Frames.{Reader}
+use Rattle.us_peer_wire.specs.declared.message.Actor.{Actor}
+use Rattle.us_peer_wire.specs.declared.message.Packet.{Packet}
+use Rattle.us_peer_wire.specs.declared.message.Message.{Message}
+use Rattle.us_peer_wire.specs.declared.message.Message.TheVariants as message
+use Rattle.us_model.specs.declared.event.Event.{Event}
+use Rattle.us_model.specs.declared.event.Event.TheVariants as event
+use Rattle.us_model.specs.declared.event.Note.TheVariants as note
+use Rattle.us_model.specs.declared.event.Outputs.{Outputs}
+use Rattle.us_model.specs.declared.coordinator.Session.{Session}
+use Rattle.us_model.specs.declared.coordinator.Waiting.TheVariants as waits
+use Rattle.us_model.specs.declared.coordinator.Desk.{Desk}
+use Rattle.us_model.specs.State.{Partition, Coordinator, Shard, Site}
+use Rattle.us_model.specs.Partitions.{known, base, get, may_prepare, prepared as prepared_here, timestamp_for, commit, versions, still_parked}
+use Rattle.us_model.specs.Sessions.{no_stream, Acted, AllActed, each_session, bytes, version, prepared, run_session}
+
+abbrev pub no_outputs : Outputs
+no_outputs = record { packets = []; client = []; notes = [] }
+
+-- an actor, and what it has given out so far
+pub record Went : Type 0 where
+  pub shard : Shard
+  pub out : Outputs
+
+-- THE SESSIONS' PART OF A RULE
+abbrev pub desk_of : Actor → Went → Desk
+desk_of me w = record { me = me; base = base me w.shard.partition; seq = w.shard.coordinator.seq; out = w.out }
+
+abbrev pub with_sessions : Went → AllActed → Went
+with_sessions w all =
+    record {
+      shard = record { partition = w.shard.partition; coordinator = record { seq = all.desk.seq; sessions = all.sessions } };
+      out = all.desk.out;
+    }
+
+abbrev pub all_sessions : (Desk → Session → Acted) → Actor → Went → Went
+all_sessions f me w = with_sessions w (each_session f (desk_of me w) w.shard.coordinator.sessions)
+
+-- THE PARTITION'S PART
+abbrev pub with_partition : Went → Partition → List Packet → Went
+with_partition w p ps = record { shard = record w.shard { partition = p }; out = record w.out { packets = w.out.packets ++ ps } }
+
+-- OPEN: a session with the coordinator's next number
+abbrev pub new_session : ℕ → Session
+new_session number =
+    record {
+      number = number;
+      past = zero;
+      asked = 0;
+      stream = no_stream;
+      begun = false;
+      count = 0;
+      running = None;
+      waits = waits.Nothing;
+      asks = [];
+      closed = false;
+    }
+
+abbrev pub opened : ℕ → Went → Went
+opened coord w =
+    let number = length w.shard.coordinator.sessions + 1 in
+    record {
+      shard = record w.shard { coordinator = record w.shard.coordinator { sessions = w.shard.coordinator.sessions ++ new_session number ∷ [] } };
+      out = record w.out { notes = w.out.notes ++ note.Opened coord number ∷ [] };
+    }
+
+-- A PACKET COMES
+-- an answer to the packet's sender
+abbrev pub answer_to : Actor → Actor → Message → Packet
+answer_to me from m = record { from = me; to = from; message = m }
+
+abbrev pub take_message : Actor → Actor → Went → Message → Went
+take_message me from w (message.Get tid place at snapshot item op own) =
+    with_partition w
+    (get me w.shard.partition (record { from = from.actor; tid = tid; place = place; at = at; snapshot = snapshot; item = item; op = op; own = own })) []
+take_message me from w (message.Version v) = all_sessions (version v) me w
+take_message me from w (message.Prepare tid snapshot writes) =
+    if may_prepare me w.shard.partition tid snapshot
+    then with_partition w (prepared_here me w.shard.partition tid snapshot writes) (answer_to me from (message.Prepared tid (timestamp_for me w.shard.partition snapshot)) ∷ [])
+    else w
+take_message me from w (message.Prepared tid ts) = all_sessions (prepared from.actor tid ts) me w
+take_message me from w (message.Commit tid vector) = with_partition w (commit me w.shard.partition tid vector) []
+
+-- A PACKET THAT AN ACTOR TAKES: from a partition's actor of the own site, about items of a configured space
+abbrev pub is_configured : Item → Bool
+is_configured item = item.space == 1
+
+abbrev pub all_configured : List Write → Bool
+all_configured [] = true
+all_configured (w ∷ ws) = is_configured w.item && all_configured ws
+
+abbrev pub message_fits : Message → Bool
+message_fits (message.Get tid place at snapshot item op own) = is_configured item
+message_fits (message.Version v) = true
+message_fits (message.Prepare tid snapshot writes) = all_configured writes
+message_fits (message.Prepared tid ts) = true
+message_fits (message.Commit tid vector) = true
+
+abbrev pub is_for : Actor → Packet → Bool
+is_for me packet = (packet.from.site == me.site) && ((packet.from.actor == 1) && message_fits packet.message)
+
+-- AN EVENT, and its actor
+abbrev pub actor_of : Event → ℕ
+actor_of (event.Open coord) = coord
+actor_of (event.Bytes coord session piece) = coord
+actor_of (event.Take packet) = packet.to.actor
+
+unfoldable pub take_event : Actor → Went → Event → Went
+take_event me w (event.Open coord) = opened coord w
+take_event me w (event.Bytes coord session piece) = all_sessions (bytes session piece) me w
+take_event me w (event.Take packet) = if is_for me packet then take_message me packet.from w packet.message else w
+
+-- WAKE: waiting questions are answered, and then each session runs
+abbrev pub answers : Actor → Went → Went
+answers me w =
+    let p = w.shard.partition in
+    with_partition w (record p { parked = still_parked (known me p) p.parked }) (versions me (known me p) p.log p.parked)
+
+unfoldable pub wake : Actor → Went → Went
+wake me w = all_sessions run_session me (answers me w)
+
+-- THE STEP OF A SITE
+pub record Stepped : Type 0 where
+  pub site : Site
+  pub out : Outputs
+
+-- actors 1 and so on have a partition and a coordinator
+abbrev pub shard_at : List Shard → ℕ → Option Shard
+shard_at shards actor = if nat_lt 0 actor then slice_get shards (actor - 1) else None
+
+abbrev pub with_shard : Site → ℕ → Went → Stepped
+with_shard site actor w = record { site = record site { shards = slice_set site.shards (actor - 1) w.shard }; out = w.out }
+
+abbrev pub step_of : Site → Event → Actor → Option Shard → Stepped
+step_of site e me None = record { site = site; out = no_outputs }
+step_of site e me (Some shard) = with_shard site me.actor (wake me (take_event me (record { shard = shard; out = no_outputs }) e))
+
+abbrev pub site_step : Site → Event → Stepped
+site_step site e = step_of site e (record { site = site.number; actor = actor_of e }) (shard_at site.shards (actor_of e))
+
+-- THE OPENING STATE
+abbrev pub new_shard : Shard
+new_shard =
+    record {
+      partition = record { clock = 0; log = []; prepared = []; done = []; got = zero; parked = [] };
+      coordinator = record { seq = 0; sessions = [] };
+    }
+
+-- a site with one partition
+abbrev pub new_site : ℕ → Site
+new_site number = record { number = number; shards = new_shard ∷ [] }

@@ -1,0 +1,32 @@
+-- What a site holds.
+use Rattle.std.specs.Prelude.{ℕ, List}
+use Rattle.us_kind.specs.declared.identity.Tid.{Tid}
+use Rattle.us_model.specs.declared.partition.LogTx.{LogTx}
+use Rattle.us_model.specs.declared.partition.PreparedTx.{PreparedTx}
+use Rattle.us_model.specs.declared.partition.Get.{Get}
+use Rattle.us_model.specs.declared.coordinator.Session.{Session}
+
+-- a partition: its clock; the transactions that are committed, in order of coming; those that are prepared; all that
+-- ever were; up to where it has all transactions of other sites; the questions that wait, in order of coming
+pub record Partition : Type 0 where
+  pub clock : ℕ
+  pub log : List LogTx
+  pub prepared : List PreparedTx
+  pub done : List Tid
+  pub got : List ℕ
+  pub parked : List Get
+
+-- a coordinator: how many transactions it has begun, and its sessions by number
+pub record Coordinator : Type 0 where
+  pub seq : ℕ
+  pub sessions : List Session
+
+-- a partition and the coordinator of the same number: one actor
+pub record Shard : Type 0 where
+  pub partition : Partition
+  pub coordinator : Coordinator
+
+-- a site, by its number, and its actors from 1
+pub record Site : Type 0 where
+  pub number : ℕ
+  pub shards : List Shard

@@ -1,0 +1,115 @@
+-- The world: all sites, all packets ever sent, and what the sites tell.
+use Rattle.std.specs.Prelude.{◌≡◌, ℕ, ◌+◌, ◌-◌, List, [], ◌∷◌, ◌++◌, Bool, true, false, not, ◌&&◌, ◌==◌, if◌then◌else◌, nat_lt, Option, Some, None, slice_get, slice_set}
+use Rattle.std.specs.List.{list_any}
+use Rattle.us_peer_wire.specs.declared.message.Packet.{Packet}
+use Rattle.us_model.specs.declared.event.Event.{Event}
+use Rattle.us_model.specs.declared.event.Event.TheVariants as event
+use Rattle.us_model.specs.declared.event.Note.{Note}
+use Rattle.us_exec.specs.declared.SessionName.{SessionName}
+use Rattle.us_model.specs.declared.coordinator.Ask.{Ask}
+use Rattle.us_model.specs.declared.coordinator.Session.{Session}
+use Rattle.us_model.specs.declared.coordinator.Waiting.{Waiting}
+use Rattle.us_model.specs.declared.coordinator.Waiting.TheVariants as waits
+use Rattle.us_model.specs.State.{Shard, Site}
+use Rattle.us_model.specs.Sites.{Stepped, site_step, new_site}
+
+-- the sites from 1, the packets in the order of sending, the numbers of those that were delivered (a packet may come
+-- again), and the notes in order
+pub record World : Type 0 where
+  pub sites : List Site
+  pub packets : List Packet
+  pub delivered : List ℕ
+  pub notes : List Note
+
+-- what may happen next: a client opens a session or sends bytes, or the k-th packet ever sent comes
+pub data Happening : Type 0 where
+  Opens : (site coord : ℕ) → Happening
+  Sends : (site coord session : ℕ) → (piece : List ℕ) → Happening
+  Comes : (k : ℕ) → Happening
+
+-- of things that are counted from 1, the n-th
+abbrev pub nth : {X : Type 0} → List X → ℕ → Option X
+nth xs n = if nat_lt 0 n then slice_get xs (n - 1) else None
+
+abbrev pub stepped : World → ℕ → Stepped → World
+stepped w s r =
+    record w { sites = slice_set w.sites (s - 1) r.site; packets = w.packets ++ r.out.packets; notes = w.notes ++ r.out.notes }
+
+abbrev pub at_one : World → ℕ → Event → Option Site → World
+at_one w s e None = w
+at_one w s e (Some site) = stepped w s (site_step site e)
+
+-- an event at a site
+abbrev pub at_site : World → ℕ → Event → World
+at_site w s e = at_one w s e (nth w.sites s)
+
+abbrev pub delivered : World → ℕ → World
+delivered w k = record w { delivered = w.delivered ++ k ∷ [] }
+
+abbrev pub comes : World → ℕ → Option Packet → World
+comes w k None = w
+comes w k (Some packet) = at_site (delivered w k) packet.to.site (event.Take packet)
+
+unfoldable pub happens : World → Happening → World
+happens w (Opens site coord) = at_site w site (event.Open coord)
+happens w (Sends site coord session piece) = at_site w site (event.Bytes coord session piece)
+happens w (Comes k) = comes w k (nth w.packets k)
+
+-- A RUN: one thing after another
+abbrev pub run : List Happening → World → World
+run [] w = w
+run (h ∷ hs) w = run hs (happens w h)
+
+-- THE OPENING WORLD: one site with one partition
+abbrev pub start : World
+start = record { sites = new_site 1 ∷ []; packets = []; delivered = []; notes = [] }
+
+-- THE LEAST UNDELIVERED PACKET from one site to another, counted from 1
+abbrev pub is_delivered : List ℕ → ℕ → Bool
+is_delivered numbers k = list_any (λ n. n == k) numbers
+
+abbrev pub is_due : ℕ → ℕ → List ℕ → ℕ → Packet → Bool
+is_due from to numbers k packet = (packet.from.site == from) && ((packet.to.site == to) && not (is_delivered numbers k))
+
+abbrev pub least_due : ℕ → ℕ → List ℕ → ℕ → List Packet → Option ℕ
+least_due from to numbers k [] = None
+least_due from to numbers k (p ∷ ps) = if is_due from to numbers k p then Some k else least_due from to numbers (k + 1) ps
+
+abbrev pub least_undelivered : World → ℕ → ℕ → Option ℕ
+least_undelivered w from to = least_due from to w.delivered 1 w.packets
+
+-- a flush from one site to another: again and again the least undelivered packet, until none is left
+abbrev pub Flushes : ℕ → ℕ → World → List Happening → Type 0
+Flushes from to w [] = least_undelivered w from to ≡ None
+Flushes from to w (h ∷ hs) = ((k : ℕ) × (least_undelivered w from to ≡ Some k) × (h ≡ Comes k)) × Flushes from to (happens w h) hs
+
+-- THE REQUESTS THAT WAIT: of each open session with unanswered requests the first one, by its number
+pub record Waits : Type 0 where
+  pub session : SessionName
+  pub at : ℕ
+
+abbrev pub first_ask : List Ask → Option ℕ
+first_ask [] = None
+first_ask (a ∷ rest) = Some a.at
+
+abbrev pub first_unanswered : List Ask → Waiting → Option ℕ
+first_unanswered asks waits.Nothing = first_ask asks
+first_unanswered asks (waits.Version at place item op) = Some at
+first_unanswered asks (waits.Prepared at missing told) = Some at
+
+abbrev pub waits_one : ℕ → ℕ → Session → Option ℕ → List Waits → List Waits
+waits_one site coord s None rest = rest
+waits_one site coord s (Some at) rest =
+    if s.closed then rest else record { session = record { site = site; coord = coord; number = s.number }; at = at } ∷ rest
+
+abbrev pub waits_in : ℕ → ℕ → List Session → List Waits
+waits_in site coord [] = []
+waits_in site coord (s ∷ ss) = waits_one site coord s (first_unanswered s.asks s.waits) (waits_in site coord ss)
+
+abbrev pub waits_at : ℕ → ℕ → List Shard → List Waits
+waits_at site coord [] = []
+waits_at site coord (shard ∷ shards) = waits_in site coord shard.coordinator.sessions ++ waits_at site (coord + 1) shards
+
+abbrev pub waits_of : List Site → List Waits
+waits_of [] = []
+waits_of (site ∷ sites) = waits_at site.number 1 site.shards ++ waits_of sites

@@ -1,0 +1,14 @@
+//! Frames of a stream, and the fields of frames.
+#![tactic(auto)]
+
+mod frames;
+pub mod laws;
+mod read_fields;
+mod write_fields;
+
+pub use frames::{FrameReader, Next};
+pub use read_fields::{take_i64, take_i128, take_u8, take_u16, take_u32, take_u64, take_value};
+pub use write_fields::{put_i64, put_i128, put_u8, put_u16, put_u32, put_u64, put_value};
+
+/// How many bytes a value has at most.
+pub const LONGEST_VALUE: usize = 1024;
