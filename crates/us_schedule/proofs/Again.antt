@@ -1,10 +1,10 @@
 -- What is written is read, and what is read is written so.
-use Rattle.std.proofs.Common.{◌≡◌, ℕ, zero, suc, ◌+◌, ◌*◌, ◌/◌, ◌%◌, ◌^◌, ◌<◌, ◌≤◌, Bool, true, false, cond, eqb, ltb, leb, List, [], ◌∷◌, ◌++◌, map, length, get_or, slice_index, Result, Ok, Err, refl, sym, ap, ◌∙◌, subst, arith}
-use Rattle.std.specs.Prelude.{◌==◌, codes, IsTrue}
+use Rattle.std.proofs.Common.{◌≡◌, ℕ, suc, ◌/◌, ◌%◌, ◌^◌, ◌<◌, ◌≤◌, Bool, true, false, cond, eqb, ltb, leb, List, [], ◌∷◌, ◌++◌, map, length, slice_index, Result, Ok, Err, refl, sym, ap, ◌∙◌, subst, arith}
+use Rattle.std.specs.Prelude.{◌==◌}
 use Rattle.std.specs.List.{slice_split, join_with_byte}
 use Rattle.std.specs.Fmt.{decimal}
 use Rattle.std.specs.Str.Parse.{AllDigits}
-use Rattle.std.proofs.lemmas.Bool.{and_parts, leb-true, ltb-true, ne_eqb, agree_below, agree_below_at}
+use Rattle.std.proofs.lemmas.Bool.{and_parts, leb-true, ltb-true, ne_eqb, agree_below_at}
 use Rattle.std.proofs.lemmas.Fmt.{digits_decimal}
 use Rattle.std.proofs.lemmas.List.{map-append}
 use Rattle.std.proofs.lemmas.List.Splits.{join_with_byte-slice_split}
@@ -13,13 +13,12 @@ use Rattle.hex.specs.Hex.{IsBytes, encode_with, encode_lower, lower_digits}
 use Rattle.us_base.specs.declared.shape.Shape.{Shape}
 use Rattle.us_base.specs.Shape.{sites_of, IsShape}
 use Rattle.us_schedule.specs.declared.fault.LineFault.{LineFault}
-use Rattle.us_schedule.specs.declared.fault.LineFault.TheVariants as fault
 use Rattle.us_schedule.specs.declared.line.Line.{Line}
 use Rattle.us_schedule.specs.declared.line.Line.TheVariants.{Open, Bytes, Close, Tick, Deliver, Flush, Lead, Forward, Crash, Settle}
-use Rattle.us_schedule.specs.Lines.{◌>>=◌, is_site, is_coord, is_actor, is_counted, is_clock, is_rounds, is_piece, number, hex, within, one, two, three, three_and_hex, said, in_range, bytes_of, IsAllowed, words_of, spelling_of, lower_digit, Read, Skipped, Found, Refused, read_of, is_skipped, line_read, WrittenIsRead, ReadIsWritten}
+use Rattle.us_schedule.specs.Lines.{is_site, is_coord, is_actor, is_counted, is_clock, is_rounds, is_piece, number, one, two, three, three_and_hex, said, in_range, IsAllowed, words_of, spelling_of, lower_digit, Read, Skipped, Found, read_of, is_skipped, line_read, WrittenIsRead, ReadIsWritten}
 use Rattle.us_schedule.proofs.Digits.{own, digits_decide}
 use Rattle.us_schedule.proofs.Words.{number_again, hex_again}
-use Rattle.us_schedule.proofs.Grammar.{lower_words, IsRead, said_is_read}
+use Rattle.us_schedule.proofs.Grammar.{lower_words, said_is_read}
 
 -- ---- words and spaces
 

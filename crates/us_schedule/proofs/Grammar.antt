@@ -1,20 +1,20 @@
 -- What words say, and what is in range.
-use Rattle.std.proofs.Common.{◌≡◌, ℕ, ◌+◌, ◌<◌, ◌≤◌, Bool, true, false, cond, ◌⊎◌, inl, inr, List, [], ◌∷◌, map, length, get_or, Result, Ok, Err, refl, sym, ap, ◌∙◌, subst, arith, count_by}
+use Rattle.std.proofs.Common.{◌≡◌, ℕ, ◌<◌, Bool, true, false, cond, ◌⊎◌, inl, inr, List, [], ◌∷◌, map, length, get_or, Result, Ok, Err, refl, sym, ap, ◌∙◌, subst, arith, count_by}
 use Rattle.std.specs.List.{slice_split}
 use Rattle.std.specs.Fmt.{decimal}
 use Rattle.std.proofs.lemmas.Slice.Eq.{bytes_eq-Decides}
 use Rattle.std.specs.Str.{bytes_eq}
-use Rattle.std.specs.Prelude.{◌==◌, codes, IsTrue}
+use Rattle.std.specs.Prelude.{◌==◌, codes}
 use Rattle.std.proofs.lemmas.Bool.{ne_eqb}
 use Rattle.std.proofs.lemmas.List.Splits.{length-slice_split}
-use Rattle.hex.specs.Hex.{IsBytes, encode_lower}
+use Rattle.hex.specs.Hex.{IsBytes}
 use Rattle.us_base.specs.declared.shape.Shape.{Shape}
 use Rattle.us_schedule.specs.declared.fault.LineFault.{LineFault}
 use Rattle.us_schedule.specs.declared.fault.LineFault.TheVariants as fault
 use Rattle.us_schedule.specs.declared.line.Line.{Line}
 use Rattle.us_schedule.specs.declared.line.Line.TheVariants.{Open, Bytes, Close, Tick, Deliver, Flush, Lead, Forward, Crash, Settle}
 use Rattle.us_schedule.specs.Lines.{◌>>=◌, number, hex, within, one, two, three, three_and_hex, said_by_one, said_by_two, said_by_three, said_by_four, said, in_range, bytes_of, IsAllowed, words_of, lower_digit, Refused, is_skipped, line_read}
-use Rattle.us_schedule.proofs.Words.{IsNumber, number_ok, lower_decimal, IsHex, hex_ok}
+use Rattle.us_schedule.proofs.Words.{number_ok, lower_decimal, IsHex, hex_ok}
 
 -- no line has one word, or more than five
 pub said_other : (shape : Shape) (words : List (List ℕ)) → (length words < 2) ⊎ (5 < length words) → said shape words ≡ Err fault.BadWord
@@ -43,7 +43,7 @@ bind_ok (Ok x) f y e = (x, refl, e)
 bind_ok (Err d) f y e = absurd cc
 
 -- the test of a word's name went either way
-chosen : {A : Type 0} (b : Bool) (x y z : Result A LineFault) → cond b x y ≡ z → ((b ≡ true) × (x ≡ z)) ⊎ ((b ≡ false) × (y ≡ z))
+pub chosen : {A : Type 0} (b : Bool) (x y z : Result A LineFault) → cond b x y ≡ z → ((b ≡ true) × (x ≡ z)) ⊎ ((b ≡ false) × (y ≡ z))
 chosen true x y z e = inl (refl, e)
 chosen false x y z e = inr (refl, e)
 
@@ -107,6 +107,14 @@ three_ok shape make name a b c line low plain e =
     let wz = lower_number c z.0 z.1 in
     read_plain shape name (a ∷ b ∷ c ∷ []) (x.0 ∷ y.0 ∷ z.0 ∷ []) (make x.0 y.0 z.0) line low (rw (wx, wy, wz) refl) (plain x.0 y.0 z.0) z.2
 
+read_bytes : (shape : Shape) (a b c d : List ℕ) (x y z : ℕ) (bytes : List ℕ) (line : Line) → map lower_digit a ≡ decimal x → map lower_digit b ≡ decimal y → map lower_digit c ≡ decimal z → IsHex d bytes
+    → (in_range shape (Bytes x y z bytes) ≡ true) × (Bytes x y z bytes ≡ line) → IsRead shape (codes "bytes" ∷ a ∷ b ∷ c ∷ d ∷ []) line
+read_bytes shape a b c d x y z bytes line wx wy wz h w =
+    let wd = h.spelled in
+    let spelled : lower_words (codes "bytes" ∷ a ∷ b ∷ c ∷ d ∷ []) ≡ words_of (Bytes x y z bytes) = rw (wx, wy, wz, wd) refl in
+    let P : Line → Type 0 = λ l. IsRead shape (codes "bytes" ∷ a ∷ b ∷ c ∷ d ∷ []) l in
+    subst P w.1 (record { spelled = spelled; allowed = record { ranges = w.0; bytes = h.fits } })
+
 bytes_ok : (shape : Shape) (a b c d : List ℕ) (line : Line) → three_and_hex shape Bytes a b c d ≡ Ok line → IsRead shape (codes "bytes" ∷ a ∷ b ∷ c ∷ d ∷ []) line
 bytes_ok shape a b c d line e =
     let x = bind_ok (number a) (λ x. number b >>= λ y. number c >>= λ z. hex d >>= λ bytes. within shape (Bytes x y z bytes)) line e in
@@ -114,16 +122,9 @@ bytes_ok shape a b c d line e =
     let z = bind_ok (number c) (λ z. hex d >>= λ bytes. within shape (Bytes x.0 y.0 z bytes)) line y.2 in
     let bytes = bind_ok (hex d) (λ bytes. within shape (Bytes x.0 y.0 z.0 bytes)) line z.2 in
     let w = within_ok shape (Bytes x.0 y.0 z.0 bytes.0) line bytes.2 in
-    let wx = lower_number a x.0 x.1 in
-    let wy = lower_number b y.0 y.1 in
-    let wz = lower_number c z.0 z.1 in
-    let h = hex_ok d bytes.0 bytes.1 in
-    let wd = h.spelled in
-    let spelled : lower_words (codes "bytes" ∷ a ∷ b ∷ c ∷ d ∷ []) ≡ words_of (Bytes x.0 y.0 z.0 bytes.0) = rw (wx, wy, wz, wd) refl in
-    let P : Line → Type 0 = λ l. IsRead shape (codes "bytes" ∷ a ∷ b ∷ c ∷ d ∷ []) l in
-    subst P w.1 (record { spelled = spelled; allowed = record { ranges = w.0; bytes = h.fits } })
+    read_bytes shape a b c d x.0 y.0 z.0 bytes.0 line (lower_number a x.0 x.1) (lower_number b y.0 y.1) (lower_number c z.0 z.1) (hex_ok d bytes.0 bytes.1) w
 
-named : (name lit : List ℕ) → bytes_eq name lit ≡ true → name ≡ lit
+pub named : (name lit : List ℕ) → bytes_eq name lit ≡ true → name ≡ lit
 named name lit e = (bytes_eq-Decides name lit).0 e
 
 plain : {name numbers : List ℕ} {line : Line} → words_of line ≡ name ∷ map decimal numbers → bytes_of line ≡ [] → IsPlain name numbers line

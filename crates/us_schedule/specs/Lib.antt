@@ -2,3 +2,4 @@ pub mod Fault
 pub mod Lines
 pub mod Text
 pub mod Parts
+pub mod Rows

@@ -1,6 +1,6 @@
 -- The lines of a schedule: what each says, how it is spelled, and why a line is refused.
-use Rattle.std.specs.Prelude.{◌≡◌, ℕ, ◌+◌, ◌^◌, ◌==◌, nat_lt, nat_le, not, Bool, ◌&&◌, ◌||◌, if◌then◌else◌, List, [], ◌∷◌, length, map, slice_index, codes, IsTrue, Option, Some, None, Result, Ok, Err}
-use Rattle.std.specs.List.{slice_split, join_with_byte}
+use Rattle.std.specs.Prelude.{◌≡◌, ℕ, ◌+◌, ◌^◌, ◌==◌, nat_lt, nat_le, not, Bool, false, ◌&&◌, ◌||◌, if◌then◌else◌, List, [], ◌∷◌, length, map, take, drop, slice_index, codes, IsTrue, Option, Some, None, Result, Ok, Err, is_ok}
+use Rattle.std.specs.List.{slice_split, join_with_byte, list_any, list_all}
 use Rattle.std.specs.Str.{all_ascii_digits, bytes_eq}
 use Rattle.std.specs.Str.Parse.{digits_value}
 use Rattle.std.specs.Fmt.{decimal}
@@ -202,6 +202,26 @@ WrittenIsRead = (shape : Shape) (line : Line) → IsShape shape → IsAllowed sh
 -- a line has no other text, but for the case of its hex digits, and is allowed
 abbrev pub ReadIsWritten : Type 0
 ReadIsWritten = (shape : Shape) (text : List ℕ) (line : Line) → line_read shape text ≡ Found line → (map lower_digit text ≡ spelling_of line) × IsAllowed shape line
+
+-- the names of the lines, and how many words stand behind each
+abbrev pub forms : List (List ℕ × ℕ)
+forms = (codes "open", 2) ∷ (codes "bytes", 4) ∷ (codes "close", 3) ∷ (codes "tick", 3) ∷ (codes "deliver", 1) ∷ (codes "flush", 2) ∷ (codes "lead", 1) ∷ (codes "forward", 2) ∷ (codes "crash", 1) ∷ (codes "settle", 2) ∷ []
+
+abbrev pub is_form : List (List ℕ) → Bool
+is_form [] = false
+is_form (name ∷ words) = list_any (λ form. (length words == form.1) && bytes_eq name form.0) forms
+
+-- the first that holds: three words behind the name are numbers, and a fourth is hex
+abbrev pub first_fault : List (List ℕ) → LineFault
+first_fault words =
+    if not (is_form words) then fault.BadWord
+    else if not (list_all (λ word. is_ok (number word)) (take 3 (drop 1 words))) then fault.BadNumber
+    else if not (list_all (λ word. is_ok (hex word)) (drop 4 words)) then fault.BadHex
+    else fault.OutOfRange
+
+-- a line is refused for the first that holds
+abbrev pub RefusedIsFirst : Type 0
+RefusedIsFirst = (shape : Shape) (text : List ℕ) (e : LineFault) → line_read shape text ≡ Refused e → e ≡ first_fault (slice_split (λ b. b == 32) text)
 
 -- ---- reading by code
 

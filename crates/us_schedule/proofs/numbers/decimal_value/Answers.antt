@@ -1,4 +1,4 @@
-use Rattle.std.proofs.Common.{◌≡◌, ◌+◌, ◌-◌, ◌*◌, ◌^◌, ◌<◌, ◌≤◌, get_or, take, arith, sym, subst}
+use Rattle.std.proofs.Common.{◌≡◌, ◌+◌, ◌-◌, ◌*◌, get_or, take, arith, sym, subst}
 use Rattle.us_schedule.proofs.Digits.{IsValue, no_digit, too_large, value_more, value_all}
 use Rattle.us_schedule.proofs.numbers.decimal_value.Goals as goal
 

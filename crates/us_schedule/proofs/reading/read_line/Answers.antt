@@ -1,4 +1,4 @@
-use Rattle.std.proofs.Common.{sym, arith, subst}
+use Rattle.std.proofs.Common.{sym, arith}
 use Rattle.us_schedule.proofs.Grammar.{refused_long, said_is_read}
 use Rattle.us_schedule.proofs.reading.read_line.Goals as goal
 

@@ -1,5 +1,4 @@
-use Rattle.std.proofs.Common.{◌+◌, sym, subst, drop, List, ℕ, []}
-use Rattle.us_schedule.specs.Text.{IsFirstLine}
+use Rattle.std.proofs.Common.{sym}
 use Rattle.us_schedule.proofs.Cuts.{first_last, first_at, lines_after, rest_is, rest_empty}
 use Rattle.us_schedule.proofs.text.next_line.Goals as goal
 
