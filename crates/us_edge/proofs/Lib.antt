@@ -1,2 +1,3 @@
 pub mod Appending
 mod Loops
+mod Memory

@@ -5,20 +5,29 @@
 //! tells, and that a failure was counted of any.
 #![tactic(auto)]
 
+mod calls;
 mod clock;
 mod faults;
 mod links;
+mod list_clock;
+mod memory_sink;
+mod memory_source;
 mod reading;
 mod sink;
 mod source;
+mod sure;
 mod text;
 mod writing;
 
 pub use clock::Clock;
 pub use faults::{Failed, PollFault, ReadAllFault, StartFault};
 pub use links::{LinkInput, Links, Plan};
+pub use list_clock::ListClock;
+pub use memory_sink::MemorySink;
+pub use memory_source::MemorySource;
 pub use reading::read_all;
 pub use sink::Sink;
 pub use source::Source;
+pub use sure::{SureSink, SureSource};
 pub use text::Text;
 pub use writing::write_all;

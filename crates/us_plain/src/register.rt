@@ -1,4 +1,4 @@
-ghost use Rattle.std.specs.Prelude.{◌≡◌};
+ghost use Rattle.std.specs.Prelude.{◌≡◌, IfOk};
 
 use std::alloc::Global;
 use std::cmp::Ordering;
@@ -45,12 +45,33 @@ impl Kept {
             Ordering::Greater => false,
         }
     }
+
+    pub fn copy(&self) -> Result<Kept, Memory>
+        ensures { IfOk result (λ copy. copy ≡ self.now) }
+    {
+        Ok(Kept {
+            stamp: self.stamp,
+            value: self.value.copy()?,
+        })
+    }
 }
 
 /// The last write so far, by its stamp.
 #[derive(Debug, PartialEq, Eq, Drop)]
 pub struct RegisterState {
     pub kept: Option<Kept>,
+}
+
+impl RegisterState {
+    pub fn copy(&self) -> Result<RegisterState, Memory>
+        ensures { IfOk result (λ copy. copy ≡ self.now) }
+    {
+        let kept = match &self.kept {
+            Some(kept) => Some(kept.copy()?),
+            None => None,
+        };
+        Ok(RegisterState { kept })
+    }
 }
 
 /// A register: its last write wins.

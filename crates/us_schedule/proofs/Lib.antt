@@ -1,0 +1,7 @@
+mod Rows
+pub mod Digits
+pub mod Words
+pub mod Grammar
+pub mod Again
+pub mod Cuts
+pub mod Parting

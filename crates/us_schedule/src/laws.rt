@@ -1,0 +1,11 @@
+ghost use Rattle.us_schedule.specs.Lines.{WrittenIsRead, ReadIsWritten};
+
+/// A line that the grammar allows is read as itself from the text that is written of it.
+pub fn written_line_is_read()
+    ensures { WrittenIsRead }
+{}
+
+/// A line is read from no other text than that which is written of it, but for the case of hex digits.
+pub fn read_line_is_written()
+    ensures { ReadIsWritten }
+{}
