@@ -2,6 +2,7 @@ ghost use Rattle.std.specs.Prelude.{◌≡◌, IfOk, IsOk, Err, None, Some};
 ghost use Rattle.us_client_wire.specs.Reading.{Reads};
 ghost use Rattle.us_client_wire.specs.Requests.{op_of, perform_of, tagged_of, body_of, request_of};
 
+use crate::frame::{ID_LIMIT, VALUE_LIMIT, VERSION, tag};
 use crate::{DecodeFault, Request};
 use std::alloc::Global;
 use us_kind::Bytes;
@@ -15,7 +16,7 @@ fn op_in(alloc: Global, bytes: &[u8]) -> Result<Op, DecodeFault>
         [1] => Ok(Op::RegisterRead),
         [2, high, low, value @ ..]
             if usize::from(u16::from_be_bytes([*high, *low])) == value.len()
-                && value.len() <= 1024 => {
+                && value.len() <= VALUE_LIMIT => {
             Ok(Op::RegisterWrite {
                 value: Bytes::from_slice(alloc, value)?,
             })
@@ -32,7 +33,7 @@ fn perform_in(alloc: Global, fields: &[u8]) -> Result<Request, DecodeFault>
         return Err(DecodeFault::Malformed);
     };
     let size = usize::from(*size);
-    if *space != 1 || size == 0 || size > 64 || size > rest.len() {
+    if *space != 1 || size == 0 || size > ID_LIMIT || size > rest.len() {
         return Err(DecodeFault::Malformed);
     }
     let (id, op) = rest.split_at(size);
@@ -44,14 +45,14 @@ fn perform_in(alloc: Global, fields: &[u8]) -> Result<Request, DecodeFault>
     Ok(Request::Perform { item, op })
 }
 
-/// The request with this tag and these fields.
-fn tagged_in(alloc: Global, tag: u8, fields: &[u8]) -> Result<Request, DecodeFault>
-    ensures { Reads result (tagged_of tag fields.now) }
+/// The request with this tag's number and these fields.
+fn tagged_in(alloc: Global, number: u8, fields: &[u8]) -> Result<Request, DecodeFault>
+    ensures { Reads result (tagged_of number fields.now) }
 {
-    match tag {
-        1 if fields.is_empty() => Ok(Request::Begin),
-        2 => perform_in(alloc, fields),
-        3 if fields.is_empty() => Ok(Request::CommitCausal),
+    match number {
+        tag::BEGIN if fields.is_empty() => Ok(Request::Begin),
+        tag::PERFORM => perform_in(alloc, fields),
+        tag::COMMIT_CAUSAL if fields.is_empty() => Ok(Request::CommitCausal),
         _ => Err(DecodeFault::Malformed),
     }
 }
@@ -62,7 +63,7 @@ fn request_in(alloc: Global, frame: &[u8]) -> Result<Request, DecodeFault>
     ensures { Reads result (request_of frame.now) }
 {
     match frame {
-        [_, _, _, _, 1, tag, fields @ ..] => tagged_in(alloc, *tag, fields),
+        [_, _, _, _, VERSION, number, fields @ ..] => tagged_in(alloc, *number, fields),
         _ => Err(DecodeFault::Malformed),
     }
 }

@@ -4,6 +4,7 @@ ghost use Rattle.us_client_wire.specs.Fields.{tid_spelling, answer_spelling, val
 ghost use Rattle.us_client_wire.specs.Replies.{reply_spelling, reply_tag, reply_fields, AnswerFits, ReplyFits};
 
 use crate::Reply;
+use crate::frame::{VERSION, tag};
 use std::alloc::Global;
 use us_kind::{Bytes, Memory, Tid};
 use us_value::Answer;
@@ -53,10 +54,10 @@ fn tag_of(reply: &Reply) -> u8
     ensures { result ≡ reply_tag reply.now }
 {
     match reply {
-        Reply::Started { .. } => 129,
-        Reply::Answered { .. } => 130,
-        Reply::Committed { .. } => 131,
-        Reply::Refused { .. } => 137,
+        Reply::Started { .. } => tag::STARTED,
+        Reply::Answered { .. } => tag::ANSWERED,
+        Reply::Committed { .. } => tag::COMMITTED,
+        Reply::Refused { .. } => tag::REFUSED,
     }
 }
 
@@ -85,16 +86,16 @@ fn put_fields(out: &mut Vec<u8>, reply: &Reply) -> Result<(), Memory>
     }
 }
 
-/// The whole frame with this tag and these fields.
-fn frame_of(alloc: Global, tag: u8, fields: &[u8]) -> Result<Vec<u8>, Memory>
+/// The whole frame with this tag's number and these fields.
+fn frame_of(alloc: Global, number: u8, fields: &[u8]) -> Result<Vec<u8>, Memory>
     requires { length fields.now + 2 < 2 ^ 32 }
-    ensures { IfOk result (λ frame. frame.items ≡ frame_spelling tag fields.now) }
+    ensures { IfOk result (λ frame. frame.items ≡ frame_spelling number fields.now) }
 {
     let length = (fields.len() + 2) as u32;
     let mut frame = Vec::with_capacity(alloc, 6 + fields.len())?;
     frame.extend_from_slice(&length.to_be_bytes())?;
-    frame.push(1)?;
-    frame.push(tag)?;
+    frame.push(VERSION)?;
+    frame.push(number)?;
     frame.extend_from_slice(fields)?;
     Ok(frame)
 }

@@ -6,6 +6,8 @@ mod encode;
 mod fault;
 mod frame;
 mod laws;
+#[cfg(test)]
+mod tests;
 
 pub use decode::decode_request;
 pub use encode::encode_reply;

@@ -15,7 +15,7 @@ pub struct SessionName {
 }
 
 /// An operation that was answered.
-#[derive(Drop)]
+#[derive(Debug, PartialEq, Eq, Drop)]
 pub struct Done {
     pub item: Item,
     pub op: Op,
@@ -85,4 +85,25 @@ pub struct Execution {
     pub entries: Items<Entry>,
     pub loose: Items<Loose>,
     pub links: Items<Link>,
+}
+
+#[cfg(test)]
+mod tests {
+    use super::*;
+    use std::test::Fail;
+    use us_kind::Bytes;
+
+    #[test]
+    fn a_copy_is_equal(rt: HostRuntime) -> Result<(), Fail> {
+        let done = Done {
+            item: Item {
+                space: 1,
+                id: Bytes::from_slice(rt.alloc(), b"a")?,
+            },
+            op: Op::RegisterRead,
+            answer: Answer::Nothing,
+        };
+        assert_eq!(rt; done.copy()?, done);
+        Ok(())
+    }
 }

@@ -4,6 +4,8 @@
 mod item;
 mod operation;
 mod state;
+#[cfg(test)]
+mod tests;
 
 pub use item::{Item, Write};
 pub use operation::{Answer, Effect, Kind, Op, State};

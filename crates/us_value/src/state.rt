@@ -7,7 +7,7 @@ use us_kind::{Memory, Replicated, Stamp, Tag};
 use us_plain::{Register, RegisterAnswer, RegisterEffect, RegisterOp};
 
 /// The register's share of an operation.
-fn register_share(op: &Op) -> Result<RegisterOp, Memory>
+fn register_op_of(op: &Op) -> Result<RegisterOp, Memory>
     ensures { IfOk result (λ share. share ≡ register_op op.now) }
 {
     match op {
@@ -70,7 +70,7 @@ pub fn answer(alloc: Global, state: &State, op: &Op) -> Result<Answer, Memory>
 {
     match state {
         State::Register { state } => {
-            let answer = Register::answer(alloc, state, &register_share(op)?)?;
+            let answer = Register::answer(alloc, state, &register_op_of(op)?)?;
             Ok(Answer::from(answer))
         }
     }
@@ -82,7 +82,7 @@ pub fn prepare(alloc: Global, state: &State, op: &Op, tag: Tag) -> Result<Option
 {
     match state {
         State::Register { state } => {
-            let effect = Register::prepare(alloc, state, &register_share(op)?, tag)?;
+            let effect = Register::prepare(alloc, state, &register_op_of(op)?, tag)?;
             Ok(effect.map(Effect::from))
         }
     }
