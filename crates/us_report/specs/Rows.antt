@@ -65,34 +65,34 @@ abbrev pub every_line_report : Report
 every_line_report = record {
   execution = record {
     entries =
-      record {
-        tid = record { site = 3; coord = 2; seq = 4611686018427387904 };
-        session = session_named 3 2 7;
-        number = 12;
-        strong = true;
-        ops =
-          record { item = record { space = 255; id = 0 ∷ 175 ∷ [] }; op = op.RegisterWrite (13 ∷ 222 ∷ []); answer = answer.Done }
-          ∷ record { item = record { space = 9; id = 127 ∷ [] }; op = op.RegisterRead; answer = answer.Nothing }
-          ∷ [];
-        past = counted 1 1 1 2 ∷ counted 2 1 1 0 ∷ counted 3 2 7 11 ∷ [];
-      }
-      ∷ [];
+        record {
+          tid = record { site = 3; coord = 2; seq = 4611686018427387904 };
+          session = session_named 3 2 7;
+          number = 12;
+          strong = true;
+          ops =
+              record { item = record { space = 255; id = 0 ∷ 175 ∷ [] }; op = op.RegisterWrite (13 ∷ 222 ∷ []); answer = answer.Done }
+              ∷ record { item = record { space = 9; id = 127 ∷ [] }; op = op.RegisterRead; answer = answer.Nothing }
+              ∷ [];
+          past = counted 1 1 1 2 ∷ counted 2 1 1 0 ∷ counted 3 2 7 11 ∷ [];
+        }
+        ∷ [];
     loose =
-      record {
-        tid = record { site = 1; coord = 2; seq = 2 };
-        session = session_named 1 2 1;
-        end = end.Open;
-        ops = read ∷ [];
-        past = counted 1 1 1 1 ∷ [];
-      }
-      ∷ record {
-        tid = record { site = 2; coord = 1; seq = 5 };
-        session = session_named 2 1 4;
-        end = end.Left;
-        ops = [];
-        past = counted 1 1 1 0 ∷ [];
-      }
-      ∷ [];
+        record {
+          tid = record { site = 1; coord = 2; seq = 2 };
+          session = session_named 1 2 1;
+          end = end.Open;
+          ops = read ∷ [];
+          past = counted 1 1 1 1 ∷ [];
+        }
+        ∷ record {
+          tid = record { site = 2; coord = 1; seq = 5 };
+          session = session_named 2 1 4;
+          end = end.Left;
+          ops = [];
+          past = counted 1 1 1 0 ∷ [];
+        }
+        ∷ [];
     links = record { session = session_named 1 2 3; from = session_named 3 1 1; count = 7 } ∷ [];
   };
   refused = record { session = session_named 1 1 1; at = 65; number = 9 } ∷ [];

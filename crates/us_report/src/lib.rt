@@ -10,3 +10,6 @@ mod writing;
 pub use report::{Refusal, Report, ReportFault, Waiting};
 pub use rows::worked_reports;
 pub use writing::write_report;
+
+#[cfg(test)]
+mod tests;

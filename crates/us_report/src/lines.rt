@@ -2,7 +2,9 @@ ghost use Rattle.std.specs.Prelude.{◌≡◌, ◌++◌, OnOk, string_bytes, Lis
 ghost use Rattle.std.specs.List.{flat_map, list_any};
 ghost use Rattle.us_report.specs.Text.{past_text, count_text, is_counted};
 
-use crate::words::{AnswerText, CountsText, ItemText, OpText, SessionText, TidText, end_word, kind_word};
+use crate::words::{
+    AnswerText, CountsText, ItemText, OpText, SessionText, TidText, end_word, kind_word,
+};
 use crate::{Refusal, Report, Waiting};
 use std::alloc::AllocError;
 use us_exec::{Count, Done, Entry, Link, Loose};

@@ -1,6 +1,11 @@
 ghost use Rattle.std.specs.Prelude.{◌≡◌};
 ghost use Rattle.us_report.specs.Rows.{
-    no_report, no_report_text, two_report, two_report_text, every_line_report, every_line_text
+  no_report,
+  no_report_text,
+  two_report,
+  two_report_text,
+  every_line_report,
+  every_line_text,
 };
 ghost use Rattle.us_report.specs.Text.{report_text, short_text};
 

@@ -10,7 +10,11 @@ use std::alloc::Global;
 use us_edge::{Sink, write_all};
 
 /// Writes the lines of one, which are made in the text.
-fn write_one<T: Lines, K: Sink>(item: &T, text: &mut String, sink: &mut K) -> Result<(), ReportFault>
+fn write_one<T: Lines, K: Sink>(
+    item: &T,
+    text: &mut String,
+    sink: &mut K,
+) -> Result<(), ReportFault>
     ensures ok { OnOk result (Appends (K.written sink.old) (K.written sink.new) (T.text item.now)) }
     ensures err { OnErr result (AppendsPrefix (K.written sink.old) (K.written sink.new) (T.text item.now)) }
     ensures cause { result ≡ Err ReportFault.Failed → Rose (K.faults sink.old) (K.faults sink.new) }
@@ -23,7 +27,11 @@ fn write_one<T: Lines, K: Sink>(item: &T, text: &mut String, sink: &mut K) -> Re
 }
 
 /// Writes the lines of each.
-fn write_each<T: Lines, K: Sink>(items: &[T], text: &mut String, sink: &mut K) -> Result<(), ReportFault>
+fn write_each<T: Lines, K: Sink>(
+    items: &[T],
+    text: &mut String,
+    sink: &mut K,
+) -> Result<(), ReportFault>
     ensures ok { OnOk result (Appends (K.written sink.old) (K.written sink.new) (flat_map T.text items.now)) }
     ensures err { OnErr result (AppendsPrefix (K.written sink.old) (K.written sink.new) (flat_map T.text items.now)) }
     ensures cause { result ≡ Err ReportFault.Failed → Rose (K.faults sink.old) (K.faults sink.new) }
