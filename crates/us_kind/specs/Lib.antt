@@ -1,4 +1,5 @@
 pub mod Histories
 pub mod Orders
+pub mod Tags
 pub mod Updates
 pub mod Words

@@ -1,0 +1,1 @@
+use Rattle.us_sets.specs.MarksLaws.{moved-commutes}

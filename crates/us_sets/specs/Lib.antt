@@ -1,0 +1,4 @@
+pub mod Defaults
+pub mod Keys
+pub mod Marks
+pub mod MarksLaws

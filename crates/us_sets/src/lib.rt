@@ -1,0 +1,2 @@
+//! The add-wins set and the enable-wins flag.
+#![tactic(auto)]
