@@ -1,1 +1,1 @@
-use Rattle.us_sets.specs.MarksLaws.{moved-commutes}
+use Rattle.us_sets.specs.FlagLaws.{flag-commutes}

@@ -335,3 +335,32 @@ module _ {O E : Type 0} (move : E → Move) (adds removes : O → Bool) (after :
   -- the counts say what the definition says
   pub is_live-marks_after : is_live (marks_after move empty us) ≡ is_there adds removes (updates_of us) after
   is_live-marks_after = both_ways _ _ live_there there_live
+
+-- ---- what a kind shows of each update
+
+module _ {O E : Type 0} (move : E → Move) (adds removes : O → Bool) (after : Tag → Tag → Bool) (us : List (Stamped O E)) (u : Stamped O E) where
+  pub follows_addition : move u.effect ≡ Put → adds u.op ≡ true → removes u.op ≡ false → Follows move adds removes after us u
+  follows_addition e a r = record {
+    adding = ap puts e ∙ sym a;
+    taking = λ t i. absurd (subst (λ m. In t (tags_of m)) e i);
+    takes = λ h. absurd (true≢false (sym h ∙ r))
+  }
+
+  pub follows_nothing : move u.effect ≡ Still → adds u.op ≡ false → removes u.op ≡ false → Follows move adds removes after us u
+  follows_nothing e a r = record {
+    adding = ap puts e ∙ sym a;
+    taking = λ t i. absurd (subst (λ m. In t (tags_of m)) e i);
+    takes = λ h. absurd (true≢false (sym h ∙ r))
+  }
+
+  pub follows_removal : (m : Counts) → m ≡ marks_after move empty (before after u us) → move u.effect ≡ Take (live_tags m) → adds u.op ≡ false → removes u.op ≡ true → Follows move adds removes after us u
+  follows_removal m met e a r = record {
+    adding = ap puts e ∙ sym a;
+    taking = λ t i. (
+      r,
+      subst (λ n. is_positive (count_at n t) ≡ true) met
+      (keys_where-passes tag_cmp-total tag_cmp-IsAntisymmetric is_positive (pos 0) refl m t (subst (λ v. In t (tags_of v)) e i)),
+    );
+    takes = λ h t live. subst (λ v. In t (tags_of v)) (sym e)
+      (passes-keys_where tag_cmp-total tag_cmp-IsAntisymmetric is_positive (pos 0) refl m t (subst (λ n. is_positive (count_at n t) ≡ true) (sym met) live))
+  }
