@@ -2,5 +2,7 @@
 #![tactic(auto)]
 
 mod flag;
+mod marks;
 
 pub use flag::{FlagAnswer, FlagEffect, FlagOp};
+pub use marks::Marks;

@@ -1,1 +1,0 @@
-use Rattle.us_sets.specs.FlagLaws.{flag-commutes}
