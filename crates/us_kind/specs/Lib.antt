@@ -1,3 +1,4 @@
+pub mod Ascending
 pub mod Histories
 pub mod Orders
 pub mod Tags

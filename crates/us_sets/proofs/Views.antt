@@ -1,21 +1,26 @@
 -- A tree's entries, seen as a finite map.
 use Rattle.std.proofs.lemmas.List.{take_more}
-use Rattle.std.proofs.Common.{◌≡◌, ℕ, ◌+◌, ◌<◌, take, get_or, ◌==◌, List, [], ◌∷◌, ◌++◌, Bool, true, false, cond, length, refl, sym, ap, ◌∙◌, subst, T, arith, eqb-true}
+use Rattle.std.proofs.Common.{◌≡◌, ℕ, ◌+◌, ◌<◌, take, get_or, ◌==◌, List, [], ◌∷◌, ◌++◌, Bool, true, false, cond, length, refl, sym, ap, ◌∙◌, subst, T, inl, true≢false, arith, eqb-true}
 use Rattle.std.specs.Prelude.{ℤ, pos, negsuc, ◌+ℤ◌, IsTrue, ◌↔◌, unwrap_or, Option, Some, None, filter, map, ◌||◌, ◌&&◌}
 use Rattle.std.specs.BTreeMap.{is_at}
 use Rattle.std.specs.Cmp.{IsTotalOrder, eq_by_cmp_equiv}
-use Rattle.std.specs.FinMap.{FinMap, IsAntisymmetric, get, insert, remove, entries, from_entries, find, is_sorted, get-entries, get-from_entries, get-insert, get-remove, entries_sorted, same_map, empty, len, len-empty, get-empty, empty_of_len}
+use Rattle.std.specs.FinMap.{IsAntisymmetric, get, insert, remove, entries, from_entries, find, is_sorted, get-entries, get-from_entries, get-insert, get-remove, entries_sorted, same_map, empty, len-empty, get-empty, empty_of_len}
 use Rattle.std.specs.FinMap.Entries.{below_all, same_entries}
 use Rattle.std.specs.List.{AllByRecursion, list_any}
 use Rattle.std.specs.List.Sorted.{IsStrictlySortedBy}
 use Rattle.std.specs.Map.{keys_of, values_of, lookup}
-use Rattle.std.specs.Ordering.{eq_by_cmp, is_lt}
+use Rattle.std.specs.Ordering.{eq_by_cmp, is_lt, nat_cmp}
 use Rattle.std.specs.declared.cmp.Ordering.{Ordering}
 use Rattle.std.specs.declared.cmp.Ordering.TheVariants.{Less}
 use Rattle.us_kind.specs.Tags.{tag_cmp, tag_cmp-total, tag_cmp-IsAntisymmetric}
 use Rattle.us_kind.specs.declared.identity.Tag.{Tag}
-use Rattle.us_sets.specs.Defaults.{key_itself}
-use Rattle.us_sets.specs.Keys.{keys_where}
+use Rattle.std.specs.Cmp.Lexicographic.{slice_cmp, nat_list_cmp_total}
+use Rattle.std.specs.FinMap.{slice_cmp-IsAntisymmetric, nat_cmp-IsAntisymmetric}
+use Rattle.us_sets.specs.Set.{marks_of}
+use Rattle.us_sets.specs.Elements.{Elements}
+use Rattle.us_kind.specs.Words.{In}
+use Rattle.us_sets.specs.Defaults.{key_itself, with_value}
+use Rattle.us_sets.specs.Keys.{keys_where, keys_where-passes}
 use Rattle.us_sets.specs.Marks.{Counts, count_at, is_zero, is_positive, is_nothing, is_live, live_tags, shifted, taken}
 
 both : (a b : Bool) → T a → T b → T (a && b)
@@ -151,3 +156,44 @@ list_any-among p (z ∷ zs) ys x passes = ap (λ b. p z || b) (list_any-among p 
 -- one that passes
 pub list_any-here : {X : Type 0} (p : X → Bool) (vs xs ys : List X) (x : X) → vs ≡ xs ++ x ∷ ys → p x ≡ true → list_any p vs ≡ true
 list_any-here p vs xs ys x is passes = ap (list_any p) is ∙ list_any-among p xs ys x passes
+
+-- ---- elements
+
+one_by_bytes : IsAntisymmetric (slice_cmp nat_cmp)
+one_by_bytes = slice_cmp-IsAntisymmetric nat_cmp-IsAntisymmetric
+
+pub members-view : (es : List (List ℕ × Counts)) → IsStrictlySortedBy (slice_cmp nat_cmp) (keys_of es) → keys_where is_live es ≡ keys_where is_live (entries (from_entries {R = slice_cmp nat_cmp} es))
+members-view es sorted = ap (keys_where is_live) (sym (entries-from_entries nat_list_cmp_total one_by_bytes es (sorted_entries (slice_cmp nat_cmp) es sorted)))
+
+pub marks_of-view : (es : List (List ℕ × Counts)) (x : List ℕ) → unwrap_or (lookup (is_at (slice_cmp nat_cmp x)) es) empty ≡ marks_of (from_entries es) x
+marks_of-view es x = ap (λ r. unwrap_or r empty) (sym (get-view nat_list_cmp_total one_by_bytes es x))
+
+-- the marks that a tree holds of an element, or none
+pub found : (es : List (List ℕ × Counts)) (x : List ℕ) (m : Counts) → lookup (is_at (slice_cmp nat_cmp x)) es ≡ Some m → m ≡ marks_of (from_entries es) x
+found es x m e = ap (λ r. unwrap_or r empty) (sym e) ∙ marks_of-view es x
+
+pub missing : (es : List (List ℕ × Counts)) (x : List ℕ) → lookup (is_at (slice_cmp nat_cmp x)) es ≡ None → empty ≡ marks_of (from_entries es) x
+missing es x e = ap (λ r. unwrap_or r empty) (sym e) ∙ marks_of-view es x
+
+pub live_tags-empty : [] ≡ live_tags empty
+live_tags-empty = on (live_tags empty) refl
+  where
+    on : (ts : List Tag) → live_tags empty ≡ ts → [] ≡ live_tags empty
+    on [] e = sym e
+    on (t ∷ ts) e =
+        let live = keys_where-passes tag_cmp-total tag_cmp-IsAntisymmetric is_positive (pos 0) refl empty t (subst (In t) (sym e) (inl refl)) in
+        absurd (true≢false (sym live ∙ ap (λ r. is_positive (unwrap_or r (pos 0))) (get-empty tag_cmp t)))
+
+-- the same change of a map of elements
+abbrev Changes : List (List ℕ × Counts) → List (List ℕ × Counts) → List ℕ → Option Counts → Type 0
+Changes es fs x w = (q : List ℕ) → lookup (is_at (slice_cmp nat_cmp q)) fs ≡ cond (is_at (slice_cmp nat_cmp x) q) w (lookup (is_at (slice_cmp nat_cmp q)) es)
+
+kept_by : (b : Bool) (s : Elements) (x : List ℕ) (m : Counts) → is_nothing m ≡ b → cond b (remove s x) (insert s x m) ≡ with_value empty is_nothing s x m
+kept_by b s x m e = ap (λ c. cond c (remove s x) (insert s x m)) (sym e)
+
+pub keep-remove : (es fs : List (List ℕ × Counts)) (x : List ℕ) (m : Counts) → is_nothing m ≡ true → Changes es fs x None → from_entries {R = slice_cmp nat_cmp} fs ≡ with_value empty is_nothing (from_entries es) x m
+keep-remove es fs x m none each = view-remove nat_list_cmp_total one_by_bytes es fs x each ∙ kept_by true (from_entries es) x m none
+
+pub keep-insert : (es fs : List (List ℕ × Counts)) (x y : List ℕ) (m : Counts) → y ≡ x → is_nothing m ≡ false → Changes es fs y (Some m) → from_entries {R = slice_cmp nat_cmp} fs ≡ with_value empty is_nothing (from_entries es) x m
+keep-insert es fs x y m same some each =
+    view-insert nat_list_cmp_total one_by_bytes es fs x m (subst (λ k. Changes es fs k (Some m)) same each) ∙ kept_by false (from_entries es) x m some

@@ -1,10 +1,9 @@
 -- The flag keeps the laws of a replicated type.
-use Rattle.std.proofs.Common.{◌≡◌, List, [], ◌∷◌, Bool, true, false, refl, sym, ap, ◌∙◌, arith}
-use Rattle.std.specs.Prelude.{ℕ, Option, Some, None, ◌↔◌}
+use Rattle.std.proofs.Common.{◌≡◌, List, [], ◌∷◌, Bool, true, refl, ap, ◌∙◌, arith}
+use Rattle.std.specs.Prelude.{Some, None, ◌↔◌}
 use Rattle.std.specs.FinMap.{empty}
-use Rattle.us_kind.specs.Updates.{Stamped, Commutes, CountsUpdates, AnswersInOrder, WasPrepared, before, state_after, updates_of, with_sums}
-use Rattle.us_kind.specs.Words.{In, tag_of}
-use Rattle.us_kind.specs.declared.identity.Stamp.{Stamp}
+use Rattle.us_kind.specs.Updates.{Stamped, Commutes, CountsUpdates, AnswersInOrder, WasPrepared, before, state_after, with_sums}
+use Rattle.us_kind.specs.Words.{tag_of}
 use Rattle.us_kind.specs.declared.identity.Tag.{Tag}
 use Rattle.us_sets.specs.Flag.{flag_initial, flag_move, flag_updated, flag_answered, flag_prepared, flag_reads, enables, disables, flag_value}
 use Rattle.us_sets.specs.Marks.{Counts, is_live, live_tags, marks_after}

@@ -1,14 +1,19 @@
 -- The keys of a finite map at which the value passes a test.
 use Rattle.std.proofs.Common.{◌≡◌, List, [], ◌∷◌, Bool, true, false, cond, refl, sym, ap, ◌∙◌, subst, true≢false, inl, inr, T}
-use Rattle.std.specs.Prelude.{Option, Some, None, unwrap_or, filter, map, ◌||◌, ◌&&◌}
+use Rattle.std.specs.Prelude.{ℕ, Option, Some, None, unwrap_or, filter, map, ◌||◌, ◌&&◌}
 use Rattle.std.specs.List.{list_any}
 use Rattle.std.specs.Cmp.{IsTotalOrder}
-use Rattle.std.specs.FinMap.{FinMap, IsAntisymmetric, get, entries, find, get-entries, entries_sorted, is_sorted}
+use Rattle.std.specs.FinMap.{FinMap, IsAntisymmetric, entries, find, get-entries, entries_sorted, is_sorted}
 use Rattle.std.specs.FinMap.Entries.{below_all}
 use Rattle.std.specs.Ordering.{eq_by_cmp, is_eq, is_lt}
 use Rattle.std.specs.declared.cmp.Ordering.{Ordering}
 use Rattle.std.specs.declared.cmp.Ordering.TheVariants.{Less, Equal, Greater}
-use Rattle.us_kind.specs.Words.{In}
+use Rattle.std.specs.Cmp.Lexicographic.{slice_cmp}
+use Rattle.std.specs.Ordering.{nat_cmp}
+use Rattle.us_kind.specs.Ascending.{Rises}
+use Rattle.us_kind.specs.Orders.{bytes_less-cmp}
+use Rattle.us_kind.specs.Updates.{All}
+use Rattle.us_kind.specs.Words.{In, bytes_less}
 use Rattle.us_sets.specs.Defaults.{value_at, key_same, key_itself}
 
 -- the keys of the entries whose values pass
@@ -33,6 +38,10 @@ less : (r : Ordering) → T (is_lt r) → r ≡ Less
 less Less h = refl
 less Equal h = absurd h
 less Greater h = absurd h
+
+is_true : (b : Bool) → T b → b ≡ true
+is_true true h = refl
+is_true false h = absurd h
 
 equal : (r : Ordering) → is_eq r ≡ true → r ≡ Equal
 equal Less e = absurd (cc)
@@ -117,3 +126,20 @@ keys_where-any p (e ∷ es) k i = on (p e.1) i (keys_where-any p es k)
     on : (b : Bool) → In k (map (λ e. e.0) (cond b (e ∷ filter (λ e. p e.1) es) (filter (λ e. p e.1) es))) → (In k (keys_where p es) → list_any (λ e. p e.1) es ≡ true) → (b || list_any (λ e. p e.1) es) ≡ true
     on true i again = refl
     on false i again = again i
+
+-- keys of bytes ascend
+all_above : {X : Type 0} (p : X → Bool) (x : List ℕ) (es : List (List ℕ × X)) → T (below_all (slice_cmp nat_cmp) x es) → All (λ y. bytes_less x y ≡ true) (keys_where p es)
+all_above p x [] below = tt
+all_above {X} p x (e ∷ es) below = on (p e.1) (all_above p x es (second _ _ below))
+  where
+    on : (b : Bool) → All (λ y. bytes_less x y ≡ true) (keys_where p es) → All (λ y. bytes_less x y ≡ true) (map (λ (e : List ℕ × X). e.0) (cond b (e ∷ filter (λ e. p e.1) es) (filter (λ e. p e.1) es)))
+    on true rest = (sym (bytes_less-cmp x e.0) ∙ is_true _ (first _ _ below), rest)
+    on false rest = rest
+
+pub keys_where-rises : {X : Type 0} (p : X → Bool) (es : List (List ℕ × X)) → T (is_sorted (slice_cmp nat_cmp) es) → Rises (keys_where p es)
+keys_where-rises p [] sorted = tt
+keys_where-rises {X} p (e ∷ es) sorted = on (p e.1) (keys_where-rises p es (second _ _ sorted))
+  where
+    on : (b : Bool) → Rises (keys_where p es) → Rises (map (λ (e : List ℕ × X). e.0) (cond b (e ∷ filter (λ e. p e.1) es) (filter (λ e. p e.1) es)))
+    on true rest = (all_above p e.0 es (first _ _ sorted), rest)
+    on false rest = rest

@@ -1,19 +1,19 @@
 -- Counts may be changed in any order, and say what is there.
 use Rattle.std.proofs.Common.{◌≡◌, ℕ, zero, suc, ◌+◌, ◌≤◌, List, [], ◌∷◌, Bool, true, false, cond, refl, sym, ap, ◌∙◌, subst, true≢false, inl, inr, arith}
-use Rattle.std.specs.Prelude.{ℤ, pos, negsuc, ◌+ℤ◌, ◌-ℤ◌, int_lt, filter, not, ◌&&◌, ◌||◌, unwrap_or}
+use Rattle.std.specs.Prelude.{ℤ, pos, negsuc, ◌+ℤ◌, ◌-ℤ◌, not, ◌&&◌, ◌||◌, unwrap_or}
 use Rattle.std.proofs.lemmas.Bool.{and_parts}
 use Rattle.std.proofs.lemmas.Int.{ints}
 use Rattle.std.specs.Cmp.{both_ways}
-use Rattle.std.specs.FinMap.{FinMap, empty, entries, get-empty}
+use Rattle.std.specs.FinMap.{empty, entries, get-empty}
 use Rattle.std.specs.List.{list_any}
-use Rattle.std.specs.Ordering.{eq_by_cmp, int_eq}
+use Rattle.std.specs.Ordering.{eq_by_cmp}
 use Rattle.us_kind.proofs.ListLemmas.{in_filter, filter_in}
 use Rattle.us_kind.specs.Tags.{tag_cmp, tag_cmp-total, tag_cmp-IsAntisymmetric}
 use Rattle.us_kind.specs.Updates.{Update, Stamped, All, AllLater, StandsBefore, before, updates_of, update_of, with_sums}
 use Rattle.us_kind.specs.Words.{In, tag_of}
 use Rattle.us_kind.specs.declared.identity.Tag.{Tag}
-use Rattle.us_sets.specs.Defaults.{changed, value_at, changed-commutes, value_at-with_value, key_same, key_itself}
-use Rattle.us_sets.specs.Keys.{keys_where, keys_where-passes, passes-keys_where, any-keys_where, keys_where-any}
+use Rattle.us_sets.specs.Defaults.{changed-commutes, value_at-with_value, key_same, key_itself}
+use Rattle.us_sets.specs.Keys.{keys_where-passes, passes-keys_where, any-keys_where, keys_where-any}
 use Rattle.us_sets.specs.Marks.{Counts, count_at, shifted, taken, is_zero, is_positive, live_tags, is_live, Move, Put, Take, Still, moved, marks_after, is_there}
 
 -- ---- any order
@@ -315,7 +315,7 @@ module _ {O E : Type 0} (move : E → Move) (adds removes : O → Bool) (after :
       let u = added.update in
       let same = added.adds.tag in
       let kept : removed (update_of u) ≡ true → ⊥ = λ r. let n = removed_taken u added.here (record { puts = added.adds.puts; tag = refl }) r in
-          let m : 1 ≤ removals move t us = subst (λ k. 1 ≤ removals move k us) same n in omega arith in
+      let m : 1 ≤ removals move t us = subst (λ k. 1 ≤ removals move k us) same n in omega arith in
       let adds_it : adds u.op ≡ true = sym (follows u added.here).adding ∙ added.adds.puts in
       update_any (λ w. adds w.op && not (removed w)) us u added.here (rw (adds_it, not_true _ kept) refl)
 
@@ -343,14 +343,14 @@ module _ {O E : Type 0} (move : E → Move) (adds removes : O → Bool) (after :
   follows_addition e a r = record {
     adding = ap puts e ∙ sym a;
     taking = λ t i. absurd (subst (λ m. In t (tags_of m)) e i);
-    takes = λ h. absurd (true≢false (sym h ∙ r))
+    takes = λ h. absurd (true≢false (sym h ∙ r));
   }
 
   pub follows_nothing : move u.effect ≡ Still → adds u.op ≡ false → removes u.op ≡ false → Follows move adds removes after us u
   follows_nothing e a r = record {
     adding = ap puts e ∙ sym a;
     taking = λ t i. absurd (subst (λ m. In t (tags_of m)) e i);
-    takes = λ h. absurd (true≢false (sym h ∙ r))
+    takes = λ h. absurd (true≢false (sym h ∙ r));
   }
 
   pub follows_removal : (m : Counts) → m ≡ marks_after move empty (before after u us) → move u.effect ≡ Take (live_tags m) → adds u.op ≡ false → removes u.op ≡ true → Follows move adds removes after us u
@@ -359,8 +359,19 @@ module _ {O E : Type 0} (move : E → Move) (adds removes : O → Bool) (after :
     taking = λ t i. (
       r,
       subst (λ n. is_positive (count_at n t) ≡ true) met
-      (keys_where-passes tag_cmp-total tag_cmp-IsAntisymmetric is_positive (pos 0) refl m t (subst (λ v. In t (tags_of v)) e i)),
+          (keys_where-passes tag_cmp-total tag_cmp-IsAntisymmetric is_positive (pos 0) refl m t (subst (λ v. In t (tags_of v)) e i)),
     );
     takes = λ h t live. subst (λ v. In t (tags_of v)) (sym e)
-      (passes-keys_where tag_cmp-total tag_cmp-IsAntisymmetric is_positive (pos 0) refl m t (subst (λ n. is_positive (count_at n t) ≡ true) (sym met) live))
+        (passes-keys_where tag_cmp-total tag_cmp-IsAntisymmetric is_positive (pos 0) refl m t (subst (λ n. is_positive (count_at n t) ≡ true) (sym met) live));
   }
+
+-- where nothing is counted, nothing is there
+pub is_live-empty : is_live empty ≡ false
+is_live-empty = on (is_live empty) refl
+  where
+    on : (b : Bool) → is_live empty ≡ b → is_live empty ≡ false
+    on false e = e
+    on true e =
+        let some = any-keys_where is_positive (entries (empty {X = ℤ} {R = tag_cmp})) e in
+        let live = keys_where-passes tag_cmp-total tag_cmp-IsAntisymmetric is_positive (pos 0) refl empty some.0 some.1 in
+        absurd (true≢false (sym live ∙ ap (λ r. is_positive (unwrap_or r (pos 0))) (get-empty tag_cmp some.0)))

@@ -3,6 +3,8 @@
 
 mod flag;
 mod marks;
+mod set;
 
-pub use flag::{FlagAnswer, FlagEffect, FlagOp};
+pub use flag::{EnableWinsFlag, FlagAnswer, FlagEffect, FlagOp};
 pub use marks::Marks;
+pub use set::{AddWinsSet, SetAnswer, SetEffect, SetOp, SetState};

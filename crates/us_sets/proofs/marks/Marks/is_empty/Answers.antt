@@ -1,5 +1,4 @@
-use Rattle.std.proofs.Common.{ap, sym, ◌∙◌}
-use Rattle.us_kind.specs.Tags.{tag_cmp}
+use Rattle.std.proofs.Common.{ap, ◌∙◌}
 use Rattle.us_sets.specs.Marks.{is_nothing}
 use Rattle.us_sets.proofs.Views.{is_nothing-view}
 use Rattle.us_sets.proofs.marks.Marks.is_empty.Goals as goal

@@ -1,4 +1,4 @@
-use Rattle.std.proofs.Common.{◌≡◌, map, ap, sym, ◌∙◌, rules, true, false, arith, ◌∷◌, ◌++◌}
+use Rattle.std.proofs.Common.{◌≡◌, map, ap, sym, ◌∙◌, rules, true, arith, ◌∷◌, ◌++◌}
 use Rattle.std.proofs.lemmas.Int.{ints}
 use Rattle.std.proofs.lemmas.Map.Iter.{iter_end, rest_so_far, rest_more}
 use Rattle.std.specs.BTreeMap.{values}
@@ -15,7 +15,7 @@ returns-then-count-gt0 c =
     let start : values c.self.inside.counts ≡ c.into_iter-count-iterator.result = search rules in
     let above : is_positive c.in-Some.count.now ≡ true = grind (arith, ints) in
     sym (list_any-here is_positive (values c.self.inside.counts) (map deref c.loop-count.yielded) c.next.new.self c.in-Some.count.now
-        (start ∙ so_far ∙ ap (λ t. map deref c.loop-count.yielded ++ t) next) above)
+    (start ∙ so_far ∙ ap (λ t. map deref c.loop-count.yielded ++ t) next) above)
     ∙ is_live-view c.self.inside.counts.entries c.values-count-items.ensures.ordered ∙ ap is_live c.self.view_is
 
 pub returns : goal.returns
