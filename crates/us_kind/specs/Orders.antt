@@ -107,7 +107,7 @@ lex-equal a b rest = on (nat_lt a b) (a == b)
     on false true e = refl
     on false false e = absurd (cc)
 
-both_equal : (o p : Ordering) → ordering_then o p ≡ Equal → (o ≡ Equal) × (p ≡ Equal)
+pub both_equal : (o p : Ordering) → ordering_then o p ≡ Equal → (o ≡ Equal) × (p ≡ Equal)
 both_equal Less p e = absurd (cc)
 both_equal Equal p e = (refl, e)
 both_equal Greater p e = absurd (cc)

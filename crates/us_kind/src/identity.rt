@@ -1,5 +1,5 @@
 ghost use Rattle.std.specs.Prelude.{◌≡◌};
-ghost use Rattle.us_kind.specs.Words.{tid_eq};
+ghost use Rattle.us_kind.specs.Words.{tag_of, tid_eq};
 
 /// A transaction: the site and the coordinator that began it, and its number there.
 ///
@@ -33,4 +33,16 @@ pub struct Stamp {
     pub sum: u128,
     pub tid: Tid,
     pub place: u8,
+}
+
+impl Stamp {
+    /// The update that the stamp is of.
+    pub fn tag(&self) -> Tag
+        ensures { result ≡ tag_of self.now }
+    {
+        Tag {
+            tid: self.tid,
+            place: self.place,
+        }
+    }
 }
