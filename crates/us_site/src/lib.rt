@@ -1,0 +1,4 @@
+//! One site: one step of it is the machine's rule.
+#![tactic(auto)]
+
+mod partition;
