@@ -1,3 +1,4 @@
 pub mod Fields
 pub mod Requests
+pub mod Reading
 pub mod Replies

@@ -2,7 +2,7 @@ use us_kind::Tid;
 use us_value::{Answer, Item, Op};
 
 /// What a client asks of its session.
-#[derive(Drop)]
+#[derive(Debug, PartialEq, Eq, Drop)]
 pub enum Request {
     Begin,
     Perform { item: Item, op: Op },
@@ -10,7 +10,7 @@ pub enum Request {
 }
 
 /// What a session tells its client. `at` is the number of the session's frame that is answered, from 1.
-#[derive(Drop)]
+#[derive(Debug, PartialEq, Eq, Drop)]
 pub enum Reply {
     Started { at: u64, tid: Tid },
     Answered { at: u64, answer: Answer },

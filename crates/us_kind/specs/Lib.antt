@@ -1,2 +1,4 @@
+pub mod Histories
+pub mod Orders
 pub mod Updates
 pub mod Words

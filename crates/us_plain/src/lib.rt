@@ -3,4 +3,7 @@
 
 mod register;
 
+#[cfg(test)]
+mod tests;
+
 pub use register::{Kept, Register, RegisterAnswer, RegisterEffect, RegisterOp, RegisterState};

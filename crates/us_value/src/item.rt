@@ -5,7 +5,7 @@ use crate::Effect;
 use us_kind::{Bytes, Memory};
 
 /// An item: its space, 1 to 255, and its id of 1 to 64 bytes there.
-#[derive(Drop)]
+#[derive(Debug, PartialEq, Eq, Drop)]
 pub struct Item {
     pub space: u8,
     pub id: Bytes,
@@ -30,7 +30,7 @@ impl Item {
 }
 
 /// The effect on an item of the operation at a place, from 1, of its transaction.
-#[derive(Drop)]
+#[derive(Debug, PartialEq, Eq, Drop)]
 pub struct Write {
     pub item: Item,
     pub place: u8,

@@ -3,6 +3,8 @@
 
 mod item;
 mod operation;
+mod state;
 
 pub use item::{Item, Write};
 pub use operation::{Answer, Effect, Kind, Op, State};
+pub use state::{answer, apply, prepare};

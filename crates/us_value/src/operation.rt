@@ -11,7 +11,7 @@ pub enum Kind {
 }
 
 /// An operation on an item. A value has at most 1,024 bytes.
-#[derive(Drop)]
+#[derive(Debug, PartialEq, Eq, Drop)]
 pub enum Op {
     RegisterRead,
     RegisterWrite { value: Bytes },
@@ -41,7 +41,7 @@ impl Op {
 }
 
 /// What an updating operation does to the state of its item, wherever and in whatever order it is applied.
-#[derive(Drop)]
+#[derive(Debug, PartialEq, Eq, Drop)]
 pub enum Effect {
     RegisterWrite { value: Bytes },
 }
@@ -59,7 +59,7 @@ impl Effect {
 }
 
 /// What an operation answers.
-#[derive(Drop)]
+#[derive(Debug, PartialEq, Eq, Drop)]
 pub enum Answer {
     Done,
     Nothing,
@@ -81,7 +81,7 @@ impl Answer {
 }
 
 /// The state of an item, of its space's kind.
-#[derive(Drop)]
+#[derive(Debug, PartialEq, Eq, Drop)]
 pub enum State {
     Register { state: RegisterState },
 }
