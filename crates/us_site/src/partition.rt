@@ -3,6 +3,7 @@ ghost use Rattle.std.specs.Prelude.{◌≡◌, ◌<◌, ◌^◌, ◌++◌, ◌�
 ghost use Rattle.us_base.specs.Vector.{zero};
 ghost use Rattle.us_model.specs.Partitions.{known, own_known, least_ts, get, next_timestamp, contains_tid, timestamp_for, may_prepare, prepared, is_of, commit, may_answer, versions, still_parked};
 
+use crate::reading::push_versions;
 use std::alloc::Global;
 use std::marker::Model;
 use us_base::Vector;
@@ -128,6 +129,29 @@ impl Part {
         Ok(())
     }
 
+    /// The questions whose snapshot is known are answered, in order of coming, and leave.
+    pub fn answer_parked(
+        &mut self,
+        alloc: Global,
+        me: &Actor,
+        packets: &mut Items<Packet>,
+    ) -> Result<(), Memory>
+        requires { me.now.site < 10 }
+        ensures state { OnOk result (self.new ≡ record self.old { parked = still_parked (known me.now self.old) self.old.parked }) }
+        ensures packets { OnOk result (packets.new ≡ packets.old ++ versions me.now (known me.now self.old) self.old.log self.old.parked) }
+    {
+        let known = self.known(me);
+        push_versions(
+            alloc,
+            me,
+            &known,
+            self.log.as_slice(),
+            self.parked.as_slice(),
+            packets,
+        )?;
+        keep_unknown(&mut self.parked, &known);
+        Ok(())
+    }
 }
 
 /// Only the questions stay whose snapshot isn't known.
