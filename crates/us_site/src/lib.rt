@@ -3,3 +3,4 @@
 
 mod partition;
 mod reading;
+mod session;
