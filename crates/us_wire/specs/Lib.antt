@@ -1,1 +1,4 @@
 pub mod Frames
+pub mod Answers
+pub mod Fields
+pub mod Runs

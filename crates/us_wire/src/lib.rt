@@ -1,24 +1,14 @@
-//! Frames of a stream.
+//! Frames of a stream, and the fields of frames.
 #![tactic(auto)]
 
-use std::marker::Model;
+mod frames;
+pub mod laws;
+mod read_fields;
+mod write_fields;
 
-/// Cuts a stream that comes in pieces into frames.
-#[derive(Drop)]
-pub struct FrameReader {
-    limit: u32,
-    buffer: Vec<u8>,
-    start: usize,
-}
+pub use frames::{FrameReader, Next};
+pub use read_fields::{take_i64, take_i128, take_u8, take_u16, take_u32, take_u64, take_value};
+pub use write_fields::{put_i64, put_i128, put_u8, put_u16, put_u32, put_u64, put_value};
 
-impl Model for FrameReader {
-    ghost use Rattle.us_wire.specs.Frames.{Reader};
-
-    ghost Value = { Reader };
-
-    ghost use Rattle.std.specs.Prelude.{drop, ◌≤◌, vec_len};
-
-    ghost view = { λ a. record { limit = a.limit; unread = drop a.start a.buffer.items } };
-
-    ghost invariant = { λ a. a.start ≤ vec_len a.buffer };
-}
+/// How many bytes a value has at most.
+pub const LONGEST_VALUE: usize = 1024;
