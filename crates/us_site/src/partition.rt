@@ -56,8 +56,7 @@ impl Part {
         requires { me.now.site < 10 }
         ensures { result ≡ known me.now self.now }
     {
-        self.got
-            .with_entry(me.site, own_known_of(self.clock, self.prepared.as_slice()))
+        self.got.with_entry(me.site, own_known_of(self.clock, self.prepared.as_slice()))
     }
 
     /// A question comes, and waits.

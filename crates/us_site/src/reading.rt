@@ -120,12 +120,7 @@ fn apply_writes(
 }
 
 /// The transaction's own effects, above every other.
-fn apply_own(
-    alloc: Global,
-    state: &mut State,
-    tid: Tid,
-    own: &[(u8, Effect)],
-) -> Result<(), Memory>
+fn apply_own(alloc: Global, state: &mut State, tid: Tid, own: &[(u8, Effect)]) -> Result<(), Memory>
     ensures { OnOk result (state.new ≡ after_own tid state.old own.now) }
 {
     for (place, effect) in own {
@@ -138,4 +133,3 @@ fn apply_own(
     }
     Ok(())
 }
-

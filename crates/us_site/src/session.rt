@@ -25,12 +25,15 @@ const SPELLED: usize = 65535;
 
 /// Why a request is refused, as docs/PROTOCOL.md lists it.
 pub const MALFORMED: u8 = 1;
+
 const NO_TRANSACTION: u8 = 2;
+
 const IN_TRANSACTION: u8 = 3;
+
 const TOO_MANY_OPERATIONS: u8 = 6;
 
 /// The partition that keeps every item.
-const HOME: u8 = 1;
+pub const HOME: u8 = 1;
 
 /// The number after it. One that doesn't fit its type counts as want of memory.
 pub fn after(n: u64) -> Result<u64, Memory>
@@ -85,7 +88,7 @@ fn give(
 }
 
 /// Tells the session's client, unless the session is closed.
-fn tell_client(
+pub fn tell_client(
     alloc: Global,
     desk: &mut Desk,
     session: &Session,
@@ -131,7 +134,7 @@ pub fn refuse(
 }
 
 /// Sends a message to a partition of the own site.
-fn send(desk: &mut Desk, part: u8, message: Message) -> Result<(), Memory>
+pub fn send(desk: &mut Desk, part: u8, message: Message) -> Result<(), Memory>
     ensures { OnOk result (desk.new ≡ with_packets desk.old (to_partition desk.old part message ∷ [])) }
 {
     let packet = Packet {
@@ -259,7 +262,7 @@ fn copies(alloc: Global, writes: &[Write]) -> Result<Items<Write>, Memory>
 }
 
 /// The transaction is committed with this vector.
-fn end(
+pub fn end(
     alloc: Global,
     desk: &mut Desk,
     session: &mut Session,
@@ -294,7 +297,15 @@ fn commit(alloc: Global, desk: &mut Desk, session: &mut Session, at: u64) -> Res
         return end(alloc, desk, session, at, tid, snapshot);
     }
     let writes = copies(alloc, transaction.writes.as_slice())?;
-    send(desk, HOME, Message::Prepare { tid, snapshot, writes })?;
+    send(
+        desk,
+        HOME,
+        Message::Prepare {
+            tid,
+            snapshot,
+            writes,
+        },
+    )?;
     let mut missing = Items::new(alloc);
     missing.push(HOME)?;
     session.waits = Waiting::Prepared {
@@ -307,7 +318,7 @@ fn commit(alloc: Global, desk: &mut Desk, session: &mut Session, at: u64) -> Res
 
 /// One request.
 #[tactic(auto, unfolding(us_model::specs::Sessions::request))]
-fn perform_request(
+pub fn perform_request(
     alloc: Global,
     desk: &mut Desk,
     session: &mut Session,
@@ -324,7 +335,7 @@ fn perform_request(
     }
 }
 
-fn waits_for_nothing(session: &Session) -> bool
+pub fn waits_for_nothing(session: &Session) -> bool
     ensures { result ≡ is_nothing session.now.waits }
 {
     match &session.waits {
