@@ -2,8 +2,14 @@
 #![tactic(auto)]
 
 mod answer;
+mod coordinator;
 mod partition;
 mod reading;
 mod running;
 mod session;
+mod shard;
+mod site;
 mod stream;
+
+pub use site::Site;
+pub use us_model::{ClientOut, Event, Note, Outputs};
