@@ -145,6 +145,41 @@ impl History {
         Ok(())
     }
 
+    /// The beginnings, in order.
+    pub fn begun(&self) -> &[Beginning]
+        ensures { result.now ≡ self.now.begun }
+    {
+        self.begun.as_slice()
+    }
+
+    /// The performed operations, in order.
+    pub fn performed(&self) -> &[Performance]
+        ensures { result.now ≡ self.now.performed }
+    {
+        self.performed.as_slice()
+    }
+
+    /// The committed transactions, in order of decision.
+    pub fn committed(&self) -> &[Commit]
+        ensures { result.now ≡ self.now.committed }
+    {
+        self.committed.as_slice()
+    }
+
+    /// The transactions that left, in order.
+    pub fn left(&self) -> &[Tid]
+        ensures { result.now ≡ self.now.left }
+    {
+        self.left.as_slice()
+    }
+
+    /// The refused requests, in order.
+    pub fn refused(&self) -> &[RefusedRequest]
+        ensures { result.now ≡ self.now.refused }
+    {
+        self.refused.as_slice()
+    }
+
     /// A transaction that was begun is committed.
     fn decide(&mut self, tid: &Tid, vector: Vector) -> Result<(), Memory>
         ensures { OnOk result (self.new ≡ noted self.old (note.Decided tid.now vector)) }
