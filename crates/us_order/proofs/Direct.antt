@@ -1,10 +1,7 @@
 -- A ledger's execution has the pasts that are counted in one step.
-use Rattle.std.proofs.Common.{◌≡◌, inl, inr, ℕ, List, [], ◌∷◌, Bool, true, false, refl, ap, ◌∙◌, cond}
+use Rattle.std.proofs.Common.{◌≡◌, inl, inr, List, [], ◌∷◌, Bool, true, false, refl, ap, ◌∙◌, cond}
 use Rattle.us_kind.specs.Words.{In}
 use Rattle.us_exec.specs.declared.SessionName.{SessionName}
-use Rattle.us_exec.specs.declared.Count.{Count}
-use Rattle.us_exec.specs.declared.Entry.{Entry}
-use Rattle.us_exec.specs.declared.Loose.{Loose}
 use Rattle.us_model.specs.State.{Partition}
 use Rattle.us_model.specs.Executions.{Begun, Committed, History, count_from, sessions_of, counted, counts, past_of, arbitrated, entry_of, entries_of, is_committed, end_of, ops_of, loose_one, loose_of, execution_by}
 use Rattle.us_order.specs.Pasts.{direct_count, direct_counts, direct_past, direct_entry_of, direct_entries, direct_loose_one, direct_loose, direct_execution}
