@@ -7,3 +7,6 @@ mod order;
 mod past;
 
 pub use history::History;
+
+#[cfg(test)]
+mod tests;
