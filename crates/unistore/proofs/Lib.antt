@@ -1,0 +1,4 @@
+mod Reading
+mod Texts
+mod Causes
+mod Sure

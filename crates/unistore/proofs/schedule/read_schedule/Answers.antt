@@ -1,0 +1,11 @@
+use Rattle.std.proofs.Common.{◌≡◌, ℕ, ◌+◌, ◌≤◌, ◌<◌, ◌^◌, List, ◌++◌, ◌∷◌, length, ap, ◌∙◌, length-append, arith}
+use Rattle.us_schedule.specs.Text.{text_lines, separator, IsParted}
+use Rattle.us_schedule.proofs.Cuts.{lines_few}
+use Rattle.unistore.proofs.Reading.{parts_few}
+use Rattle.unistore.proofs.schedule.read_schedule.Goals as goal
+
+pub overflow_add-parts : goal.overflow_add-parts
+overflow_add-parts c = let few = parts_few _ _ c.in-Ok.ensures.lines in grind arith
+
+pub read_behind-requires : goal.read_behind-requires
+read_behind-requires c = let few = parts_few _ _ c.in-Ok.ensures.lines in omega arith

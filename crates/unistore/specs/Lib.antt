@@ -1,0 +1,4 @@
+pub mod Schedule
+pub mod Report
+pub mod Status
+pub mod Answers

@@ -1,0 +1,6 @@
+//! What the top call has outside.
+
+pub use us_edge::{
+    Clock, Failed, LinkInput, Links, ListClock, MemorySink, MemorySource, Plan, PollFault,
+    ReadAllFault, Sink, Source, StartFault, SureSink, SureSource, Text, read_all, write_all,
+};

@@ -1,0 +1,69 @@
+ghost use Rattle.std.specs.Prelude.{◌≡◌};
+ghost use Rattle.unistore.specs.Status.{reason_text, status_number};
+
+/// Why an input is refused.
+#[derive(Clone, Copy, Debug, PartialEq, Eq, Hash)]
+pub enum Reason {
+    /// No line is `---`.
+    NoSeparator,
+    /// The line is none that this store reads yet.
+    NotBuilt,
+}
+
+impl Reason {
+    /// The reason as it is printed.
+    pub fn word(self) -> &'static str
+        ensures { result.now ≡ reason_text self }
+    {
+        match self {
+            Reason::NoSeparator => "NoSeparator",
+            Reason::NotBuilt => "NotBuilt",
+        }
+    }
+}
+
+/// Which limit was passed.
+#[derive(Clone, Copy, Debug, PartialEq, Eq, Hash)]
+pub enum LimitKind {
+    /// 2^28 bytes of input.
+    Text,
+}
+
+/// How a call ended.
+#[derive(Clone, Copy, Debug, PartialEq, Eq, Hash)]
+pub enum Status {
+    /// The input was read to its end and the report was written.
+    Done,
+    /// The words are none of the forms.
+    Words,
+    /// The input is refused at a line, counted from 1.
+    Input { line: u64, reason: Reason },
+    /// A read failed, and the source counted it.
+    ReadFault,
+    /// A write failed, and the sink counted it. A front of the text was written.
+    WriteFault,
+    /// The links did not start, and counted it.
+    LinkFault,
+    /// Want of memory.
+    Memory,
+    /// A limit was passed at a line, counted from 1, or 0 where it is no line's.
+    Limit { which: LimitKind, line: u64 },
+}
+
+impl Status {
+    /// The exit status of the program.
+    pub fn number(&self) -> u8
+        ensures { result ≡ status_number self.now }
+    {
+        match self {
+            Status::Done => 0,
+            Status::Words => 2,
+            Status::Input { .. } => 3,
+            Status::ReadFault => 4,
+            Status::WriteFault => 5,
+            Status::LinkFault => 6,
+            Status::Memory => 7,
+            Status::Limit { .. } => 8,
+        }
+    }
+}

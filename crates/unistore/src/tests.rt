@@ -1,0 +1,330 @@
+ghost use Rattle.std.specs.Prelude.{◌≤◌};
+
+use crate::edge::{ListClock, MemorySink, MemorySource};
+use crate::real::NoLinks;
+use crate::{LimitKind, Reason, Status, replay_surely, unistore};
+use std::alloc::Global;
+use std::test::Fail;
+
+/// The empty store's report.
+const NOTHING: &str = "committed 0 strong 0 aborted 0 loose 0 links 0 refused 0 waiting 0\n";
+
+/// A transaction that writes and reads, and one that reads what the first wrote.
+const TWO: &str = "\
+---\n\
+open 1 1\n\
+bytes 1 1 1 00000002010100000009010201016102000178\n\
+flush 1 1\n\
+bytes 1 1 1 00000006010201016101000000020103\n\
+flush 1 1\n\
+bytes 1 1 1 00000002010100000006010201016101000000020103\n\
+flush 1 1\n\
+";
+
+/// The same, a byte a line.
+const BYTE_BY_BYTE: &str = "\
+---\n\
+open 1 1\n\
+bytes 1 1 1 00\n\
+bytes 1 1 1 00\n\
+bytes 1 1 1 00\n\
+bytes 1 1 1 02\n\
+bytes 1 1 1 01\n\
+bytes 1 1 1 01\n\
+bytes 1 1 1 00\n\
+bytes 1 1 1 00\n\
+bytes 1 1 1 00\n\
+bytes 1 1 1 09\n\
+bytes 1 1 1 01\n\
+bytes 1 1 1 02\n\
+bytes 1 1 1 01\n\
+bytes 1 1 1 01\n\
+bytes 1 1 1 61\n\
+bytes 1 1 1 02\n\
+bytes 1 1 1 00\n\
+bytes 1 1 1 01\n\
+bytes 1 1 1 78\n\
+flush 1 1\n\
+bytes 1 1 1 00\n\
+bytes 1 1 1 00\n\
+bytes 1 1 1 00\n\
+bytes 1 1 1 06\n\
+bytes 1 1 1 01\n\
+bytes 1 1 1 02\n\
+bytes 1 1 1 01\n\
+bytes 1 1 1 01\n\
+bytes 1 1 1 61\n\
+bytes 1 1 1 01\n\
+bytes 1 1 1 00\n\
+bytes 1 1 1 00\n\
+bytes 1 1 1 00\n\
+bytes 1 1 1 02\n\
+bytes 1 1 1 01\n\
+bytes 1 1 1 03\n\
+flush 1 1\n\
+bytes 1 1 1 00\n\
+bytes 1 1 1 00\n\
+bytes 1 1 1 00\n\
+bytes 1 1 1 02\n\
+bytes 1 1 1 01\n\
+bytes 1 1 1 01\n\
+bytes 1 1 1 00\n\
+bytes 1 1 1 00\n\
+bytes 1 1 1 00\n\
+bytes 1 1 1 06\n\
+bytes 1 1 1 01\n\
+bytes 1 1 1 02\n\
+bytes 1 1 1 01\n\
+bytes 1 1 1 01\n\
+bytes 1 1 1 61\n\
+bytes 1 1 1 01\n\
+bytes 1 1 1 00\n\
+bytes 1 1 1 00\n\
+bytes 1 1 1 00\n\
+bytes 1 1 1 02\n\
+bytes 1 1 1 01\n\
+bytes 1 1 1 03\n\
+flush 1 1\n\
+";
+
+/// The report of both.
+const TWO_REPORT: &str = "\
+t 1.1.1 1.1.1 1 causal -\n\
+o 1:61 write:78 done\n\
+o 1:61 read value:78\n\
+t 1.1.2 1.1.1 2 causal 1.1.1=1\n\
+o 1:61 read value:78\n\
+committed 2 strong 0 aborted 0 loose 0 links 0 refused 0 waiting 0\n\
+";
+
+/// How a call ended, and what it wrote.
+#[derive(Drop)]
+struct Outcome {
+    status: Status,
+    written: Vec<u8>,
+}
+
+/// Splits words at single spaces.
+fn words_of(alloc: Global, text: &str) -> Result<Vec<String>, Fail> {
+    let mut words = Vec::new(alloc);
+    for word in text.split(' ') {
+        words.push(String::from_str(alloc, word)?)?;
+    }
+    Ok(words)
+}
+
+/// Calls over objects in memory: reads give at most 4,096 bytes, and writes take at most `per_write`. The calls of
+/// these numbers fail.
+fn ended(
+    alloc: Global,
+    words: &str,
+    input: &str,
+    per_write: usize,
+    failing_read: u64,
+    failing_write: u64,
+) -> Result<Outcome, Fail>
+    requires { 1 ≤ per_write }
+{
+    let words = words_of(alloc, words)?;
+    let mut source = MemorySource::new(
+        Vec::from_slice(alloc, input.as_bytes())?,
+        4096,
+        Vec::from_slice(alloc, [failing_read].as_slice())?,
+    );
+    let mut sink = MemorySink::new(
+        alloc,
+        per_write,
+        Vec::from_slice(alloc, [failing_write].as_slice())?,
+    );
+    let mut links = NoLinks::new();
+    let mut clock = ListClock::new(Vec::new(alloc));
+    let status = unistore(
+        alloc,
+        words.as_slice(),
+        &mut source,
+        &mut sink,
+        &mut links,
+        &mut clock,
+    );
+    Ok(Outcome {
+        status,
+        written: Vec::from_slice(alloc, sink.written())?,
+    })
+}
+
+/// Calls where nothing is told to fail.
+fn answered(alloc: Global, words: &str, input: &str) -> Result<Outcome, Fail> {
+    ended(alloc, words, input, 4096, 0, 0)
+}
+
+#[test]
+fn refusals(rt: HostRuntime) -> Result<(), Fail> {
+    for (input, line, reason, want) in [
+        ("", 1, Reason::NoSeparator, "refused line 1 NoSeparator\n"),
+        (
+            "\n# open\n",
+            3,
+            Reason::NoSeparator,
+            "refused line 3 NoSeparator\n",
+        ),
+        (
+            "--- \n",
+            2,
+            Reason::NoSeparator,
+            "refused line 2 NoSeparator\n",
+        ),
+        (
+            "---\r",
+            2,
+            Reason::NoSeparator,
+            "refused line 2 NoSeparator\n",
+        ),
+        (
+            "---\nsettle 1 1\n",
+            2,
+            Reason::NotBuilt,
+            "refused line 2 NotBuilt\n",
+        ),
+        (
+            "\nsites = 3\n---\n",
+            2,
+            Reason::NotBuilt,
+            "refused line 2 NotBuilt\n",
+        ),
+        (
+            "#\n\n---\nopen  1 1\n",
+            4,
+            Reason::NotBuilt,
+            "refused line 4 NotBuilt\n",
+        ),
+        (
+            "---\n\nopen 1 1\nopen 2 1",
+            4,
+            Reason::NotBuilt,
+            "refused line 4 NotBuilt\n",
+        ),
+        (
+            "---\nopen 1 1\nopen 1 1\r",
+            3,
+            Reason::NotBuilt,
+            "refused line 3 NotBuilt\n",
+        ),
+    ] {
+        let ended = answered(rt.alloc(), "replay", input)?;
+        assert_eq!(rt; ended.status, Status::Input { line, reason }, "{input}");
+        assert_eq!(rt; ended.written.as_slice(), want.as_bytes(), "{input}");
+    }
+    Ok(())
+}
+
+#[test]
+fn words_that_are_no_form(rt: HostRuntime) -> Result<(), Fail> {
+    for words in ["", "replay long", "replay ", "Replay"] {
+        let ended = answered(rt.alloc(), words, TWO)?;
+        assert_eq!(rt; ended.status, Status::Words, "{words}");
+        assert_eq!(rt;
+            ended.written.as_slice(),
+            b"refused words\n".as_slice(),
+            "{words}"
+        );
+    }
+    Ok(())
+}
+
+#[test]
+fn ends_of_lines(rt: HostRuntime) -> Result<(), Fail> {
+    for input in ["---", "---\n", "---\r\n", "# a\r\n\r\n---\n\n# b"] {
+        let ended = answered(rt.alloc(), "replay", input)?;
+        assert_eq!(rt; ended.status, Status::Done, "{input}");
+        assert_eq!(rt; ended.written.as_slice(), NOTHING.as_bytes(), "{input}");
+    }
+    Ok(())
+}
+
+#[test]
+fn two_transactions(rt: HostRuntime) -> Result<(), Fail> {
+    for input in [TWO, BYTE_BY_BYTE] {
+        let ended = answered(rt.alloc(), "replay", input)?;
+        assert_eq!(rt; ended.status, Status::Done);
+        assert_eq!(rt; ended.written.as_slice(), TWO_REPORT.as_bytes());
+    }
+    Ok(())
+}
+
+#[test]
+fn a_read_that_fails(rt: HostRuntime) -> Result<(), Fail> {
+    let ended = ended(rt.alloc(), "replay", TWO, 4096, 2, 0)?;
+    assert_eq!(rt; ended.status, Status::ReadFault);
+    assert_eq!(rt; ended.written.len(), 0);
+    Ok(())
+}
+
+#[test]
+fn a_write_that_fails(rt: HostRuntime) -> Result<(), Fail> {
+    for (words, input, want) in [
+        ("replay", TWO, "t 1.1.1 1.1.1 1 "),
+        ("replay", "---", "committed 0 stro"),
+        ("replay", "", "refused line 1 N"),
+    ] {
+        let ended = ended(rt.alloc(), words, input, 1, 0, 17)?;
+        assert_eq!(rt; ended.status, Status::WriteFault, "{want}");
+        assert_eq!(rt; ended.written.as_slice(), want.as_bytes());
+    }
+    Ok(())
+}
+
+#[test]
+fn without_failures(rt: HostRuntime) -> Result<(), Fail> {
+    let alloc = rt.alloc();
+    let words = words_of(alloc, "replay")?;
+    for (input, want) in [
+        ("---", Status::Done),
+        (
+            "-",
+            Status::Input {
+                line: 2,
+                reason: Reason::NoSeparator,
+            },
+        ),
+    ] {
+        let bytes = Vec::from_slice(alloc, input.as_bytes())?;
+        let mut clock = ListClock::new(Vec::new(alloc));
+        let status = replay_surely(
+            alloc,
+            words.as_slice(),
+            bytes,
+            &mut NoLinks::new(),
+            &mut clock,
+        );
+        assert_eq!(rt; status, want, "{input}");
+    }
+    Ok(())
+}
+
+#[test]
+fn numbers(rt: HostRuntime) {
+    for (status, want) in [
+        (Status::Done, 0),
+        (Status::Words, 2),
+        (
+            Status::Input {
+                line: 1,
+                reason: Reason::NotBuilt,
+            },
+            3,
+        ),
+        (Status::ReadFault, 4),
+        (Status::WriteFault, 5),
+        (Status::LinkFault, 6),
+        (Status::Memory, 7),
+        (
+            Status::Limit {
+                which: LimitKind::Text,
+                line: 0,
+            },
+            8,
+        ),
+    ] {
+        assert_eq!(rt; status.number(), want);
+    }
+}
