@@ -1,6 +1,5 @@
 -- What follows from the answers, status by status.
-use Rattle.std.proofs.Common.{◌≡◌, ◌≢◌, ℕ, ◌⊎◌, inl, inr, List, Option, Some, None, refl, sym, ap, ◌∙◌, subst}
-use Rattle.us_schedule.specs.declared.line.Line.{Line}
+use Rattle.std.proofs.Common.{◌≡◌, ℕ, ◌⊎◌, inl, inr, List, Option, Some, None, refl}
 use Rattle.unistore.specs.declared.form.Form.{Form}
 use Rattle.unistore.specs.declared.form.Form.TheVariants.{Replay}
 use Rattle.unistore.specs.declared.schedule.Schedule.{Schedule}
@@ -8,9 +7,8 @@ use Rattle.unistore.specs.declared.schedule.Schedule.TheVariants.{Refused, Accep
 use Rattle.unistore.specs.declared.status.Reason.{Reason}
 use Rattle.unistore.specs.declared.status.Status.{Status}
 use Rattle.unistore.specs.declared.status.Status.TheVariants.{Done, Words, Input, ReadFault, WriteFault, LinkFault, Memory, Limit}
-use Rattle.unistore.specs.Answers.{SourceState, SinkState, Came, Performs, Performed, Replays, RefusesWords, AnswersForm, IsDone, IsRefusedInput, IfInput, Writes}
+use Rattle.unistore.specs.Answers.{SourceState, SinkState, Came, Performs, AnswersForm, IsDone, IsRefusedInput, IfInput}
 use Rattle.unistore.specs.Schedule.{schedule_of}
-use Rattle.unistore.specs.Status.{refusal_text}
 
 pub is_replay : (form : Form) → form ≡ Replay
 is_replay Replay = refl

@@ -1,5 +1,5 @@
 -- Over a source and a sink whose counts of faults stay 0.
-use Rattle.std.proofs.Common.{◌≡◌, ℕ, ◌+◌, ◌<◌, ◌≤◌, ◌^◌, ◌⊎◌, inl, inr, List, [], ◌∷◌, ◌++◌, length, Option, Some, None, refl, sym, ap, ◌∙◌, subst, arith}
+use Rattle.std.proofs.Common.{◌≡◌, ℕ, ◌<◌, ◌≤◌, ◌^◌, ◌⊎◌, inl, inr, List, ◌++◌, length, Option, Some, None, refl, sym, ap, ◌∙◌, subst, arith}
 use Rattle.std.proofs.lemmas.Bool.{lt-ltb, le-ltb}
 use Rattle.std.proofs.lemmas.List.{append-nil, length-append}
 use Rattle.us_edge.specs.Faults.{Rose}
@@ -8,9 +8,7 @@ use Rattle.unistore.specs.declared.form.Form.{Form}
 use Rattle.unistore.specs.declared.form.Form.TheVariants.{Replay}
 use Rattle.unistore.specs.declared.schedule.Schedule.{Schedule}
 use Rattle.unistore.specs.declared.schedule.Schedule.TheVariants.{Refused, Accepted}
-use Rattle.unistore.specs.declared.status.LimitKind.{LimitKind}
 use Rattle.unistore.specs.declared.status.LimitKind.TheVariants.{Text}
-use Rattle.unistore.specs.declared.status.Reason.{Reason}
 use Rattle.unistore.specs.declared.status.Status.{Status}
 use Rattle.unistore.specs.declared.status.Status.TheVariants.{Done, Words, Input, ReadFault, WriteFault, LinkFault, Memory, Limit}
 use Rattle.unistore.specs.Answers.{SourceState, SinkState, Came, Performs, Performed, AnswersForm, sure_status, status_of_schedule}

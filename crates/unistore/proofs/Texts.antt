@@ -1,5 +1,5 @@
 -- The texts of refusals.
-use Rattle.std.proofs.Common.{◌≡◌, ℕ, List, [], ◌∷◌, refl}
+use Rattle.std.proofs.Common.{◌≡◌, [], ◌∷◌, refl}
 use Rattle.std.specs.Fmt.{decimal, digits}
 
 pub decimal_zero : decimal 0 ≡ 48 ∷ []

@@ -6,7 +6,6 @@ use Rattle.us_schedule.specs.declared.line.Line.{Line}
 use Rattle.us_schedule.specs.declared.line.Line.TheVariants.{Open, Bytes, Flush}
 use Rattle.us_schedule.specs.Lines.{Read, Skipped, Found, is_skipped, line_read}
 use Rattle.us_schedule.specs.Text.{text_lines, Parted, parted_text}
-use Rattle.unistore.specs.declared.status.Reason.{Reason}
 use Rattle.unistore.specs.declared.status.Reason.TheVariants.{NoSeparator, NotBuilt}
 use Rattle.unistore.specs.declared.schedule.Schedule.{Schedule}
 use Rattle.unistore.specs.declared.schedule.Schedule.TheVariants.{Refused, Accepted}

@@ -1,8 +1,8 @@
-use Rattle.std.proofs.Common.{◌≡◌, map, Option, Some, None, List, ℕ, sym, ap, ◌∙◌, subst, string_bytes}
+use Rattle.std.proofs.Common.{◌≡◌, map, Option, Some, None, sym, ap, ◌∙◌, subst, string_bytes}
 use Rattle.unistore.specs.declared.form.Form.{Form}
 use Rattle.unistore.specs.declared.form.Form.TheVariants.{Replay}
 use Rattle.unistore.specs.declared.status.Status.{Status}
-use Rattle.unistore.specs.Answers.{SourceState, SinkState, AnswersForm, Answers, form_of}
+use Rattle.unistore.specs.Answers.{SourceState, SinkState, AnswersForm, form_of}
 use Rattle.unistore.proofs.Causes.{is_replay, words_only, no_form, not_linked, is_done, is_input}
 use Rattle.unistore.proofs.call.unistore.Goals as goal
 

@@ -1,6 +1,4 @@
-use Rattle.std.proofs.Common.{◌≡◌, ℕ, ◌+◌, ◌≤◌, ◌<◌, ◌^◌, List, ◌++◌, ◌∷◌, length, ap, ◌∙◌, length-append, arith}
-use Rattle.us_schedule.specs.Text.{text_lines, separator, IsParted}
-use Rattle.us_schedule.proofs.Cuts.{lines_few}
+use Rattle.std.proofs.Common.{arith}
 use Rattle.unistore.proofs.Reading.{parts_few}
 use Rattle.unistore.proofs.schedule.read_schedule.Goals as goal
 

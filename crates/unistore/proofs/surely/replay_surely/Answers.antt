@@ -1,5 +1,4 @@
-use Rattle.std.proofs.Common.{◌≡◌, map, Option, Some, None, List, ℕ, refl, sym, ap, string_bytes}
-use Rattle.unistore.specs.declared.status.Status.{Status}
+use Rattle.std.proofs.Common.{map, Option, Some, None, List, ℕ, refl, ap, string_bytes}
 use Rattle.unistore.specs.Answers.{SourceState, SinkState, form_of}
 use Rattle.unistore.proofs.Sure.{sure_answer}
 use Rattle.unistore.proofs.surely.replay_surely.Goals as goal
