@@ -1,0 +1,1 @@
+use Rattle.us_multi.specs.MultiLaws.{multi-commutes}

@@ -1,0 +1,3 @@
+pub mod Multi
+pub mod MultiLaws
+pub mod Writes

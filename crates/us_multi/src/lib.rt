@@ -1,0 +1,6 @@
+//! The multi-value register.
+#![tactic(auto)]
+
+mod multi;
+
+pub use multi::{MultiAnswer, MultiEffect, MultiOp};
