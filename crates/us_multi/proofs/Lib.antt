@@ -1,1 +1,1 @@
-mod Try
+pub mod Views

@@ -242,7 +242,7 @@ kept q (v ∷ us) u order unnamed (inl e) t =
     let own : tag_of v.stamp ≡ q = ap (λ (w : Stamped MultiOp MultiEffect). tag_of w.stamp) e ∙ t in
     ap (λ o. entry_after q o us) (at_tag-own q v.effect (tag_of v.stamp) (unnamed v (inl refl)) (subst (λ k. tie k (tag_of v.stamp) ≡ true) own (tie_itself (tag_of v.stamp))))
     ∙ subst (λ k. entry_after k (Some (Some (worth v.effect))) us ≡ Some (Some (worth v.effect))) own
-        (other_stays v (Some (Some (worth v.effect))) us (λ w i. subst (λ k. names k w.effect ≡ false) (sym own) (unnamed w (inr i))) order.0)
+    (other_stays v (Some (Some (worth v.effect))) us (λ w i. subst (λ k. names k w.effect ≡ false) (sym own) (unnamed w (inr i))) order.0)
     ∙ ap (λ (w : Stamped MultiOp MultiEffect). Some (Some (worth w.effect))) e
 kept q (v ∷ us) u order unnamed (inr i) t =
     ap (λ o. entry_after q o us) (at_tag-other q None v.effect (tag_of v.stamp) (unnamed v (inl refl)) (on (tie q (tag_of v.stamp)) refl))
@@ -282,7 +282,7 @@ wrote q z (u ∷ us) order h = on (names q u.effect) (tie q (tag_of u.stamp)) re
         value_kept (inl v) own now = absurd (never z (sym (named_gone q _ us v.0 v.1 v.2) ∙ now))
         value_kept (inr unnamed) own now =
             let stays = subst (λ k. entry_after k (Some (Some (worth u.effect))) us ≡ Some (Some (worth u.effect))) (sym own)
-                (other_stays u (Some (Some (worth u.effect))) us (λ w i. subst (λ k. names k w.effect ≡ false) own (unnamed w i)) order.0) in
+            (other_stays u (Some (Some (worth u.effect))) us (λ w i. subst (λ k. names k w.effect ≡ false) own (unnamed w i)) order.0) in
             let same : Some (Some (worth u.effect)) ≡ Some (Some z) = sym stays ∙ now in
             cc
 

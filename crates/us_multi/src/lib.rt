@@ -2,5 +2,9 @@
 #![tactic(auto)]
 
 mod multi;
+mod sorted;
+mod writes;
 
-pub use multi::{MultiAnswer, MultiEffect, MultiOp};
+pub use multi::{MultiAnswer, MultiEffect, MultiOp, MultiValue};
+pub use sorted::Sorted;
+pub use writes::MultiState;

@@ -1,1 +1,0 @@
-use Rattle.us_multi.specs.MultiLaws.{multi-commutes}
