@@ -3,6 +3,8 @@
 
 mod multi;
 mod sorted;
+#[cfg(test)]
+mod tests;
 mod writes;
 
 pub use multi::{MultiAnswer, MultiEffect, MultiOp, MultiValue};
