@@ -2,3 +2,4 @@ pub mod ListLemmas
 pub mod Permutations
 pub mod SameBytes
 pub mod TestLemmas
+pub mod TreeViews

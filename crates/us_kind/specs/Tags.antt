@@ -1,5 +1,6 @@
 -- The order of tags, as the comparison of Rust.
-use Rattle.std.proofs.Common.{◌≡◌}
+use Rattle.std.proofs.Common.{◌≡◌, ℕ, refl}
+use Rattle.std.specs.Coded.{Coded, code_by, coded×, coded_ℕ}
 use Rattle.std.specs.Cmp.{IsTotalOrder, nat_cmp_total, on_total, then_total}
 use Rattle.std.specs.FinMap.{IsAntisymmetric, nat_cmp-IsAntisymmetric}
 use Rattle.std.specs.Ordering.{nat_cmp, on, ordering_then}
@@ -37,3 +38,9 @@ tag_cmp-IsAntisymmetric a b e =
     let e2 = nat_cmp-IsAntisymmetric a.tid.seq b.tid.seq coord.1 in
     let e3 = nat_cmp-IsAntisymmetric a.place b.place parts.1 in
     λ i. record { tid = record { site = e0 i; coord = e1 i; seq = e2 i }; place = e3 i }
+
+-- a tag as its numbers
+abbrev pub tag_code : Coded Tag
+tag_code =
+    code_by (ℕ × (ℕ × (ℕ × ℕ))) (coded× coded_ℕ (coded× coded_ℕ (coded× coded_ℕ coded_ℕ))) (λ t. (t.tid.site, (t.tid.coord, (t.tid.seq, t.place))))
+    (λ p. record { tid = record { site = p.0; coord = p.1.0; seq = p.1.1.0 }; place = p.1.1.1 }) (λ _. refl)

@@ -8,7 +8,7 @@ ghost use Rattle.std.specs.Ordering.{nat_cmp, as_partial_cmp};
 ghost use Rattle.us_kind.specs.Words.{bytes_eq};
 
 use crate::Memory;
-use std::alloc::Global;
+use std::alloc::{AllocError, Global};
 use std::cmp::Ordering;
 use std::marker::Model;
 
@@ -113,5 +113,15 @@ impl Ord for Bytes {
 
     fn cmp(&self, other: &Bytes) -> Ordering {
         self.items.cmp(&other.items)
+    }
+}
+
+impl Clone for Bytes {
+    ghost is_clone = { λ a b. b ≡ a };
+
+    fn clone(&self) -> Result<Bytes, AllocError> {
+        Ok(Bytes {
+            items: self.items.clone()?,
+        })
     }
 }

@@ -2,27 +2,21 @@
 -- added less how often it was taken away. A thing is there where some count is above 0. A count of 0 is not kept, so
 -- an addition that was taken away leaves nothing behind; one below 0 waits for an addition that has not arrived yet.
 use Rattle.std.specs.Prelude.{ℕ, ◌==◌, refl, ℤ, pos, negsuc, ◌+ℤ◌, int_lt, List, [], ◌∷◌, Bool, ◌&&◌, not}
-use Rattle.std.specs.Coded.{Coded, code_by, coded×, coded_ℕ, coded_ℤ}
+use Rattle.std.specs.Coded.{Coded, coded_ℤ}
 use Rattle.std.specs.FinMap as finite
 use Rattle.std.specs.FinMap.{FinMap, entries}
 use Rattle.std.specs.List.{list_any}
 use Rattle.std.specs.Ordering.{int_eq}
-use Rattle.us_kind.specs.Tags.{tag_cmp}
+use Rattle.us_kind.specs.Tags.{tag_cmp, tag_code}
 use Rattle.us_kind.specs.Updates.{Update, Stamped}
 use Rattle.us_kind.specs.Words.{tag_of}
 use Rattle.us_kind.specs.declared.identity.Tag.{Tag}
-use Rattle.us_sets.specs.Defaults.{changed, value_at}
-use Rattle.us_sets.specs.Keys.{keys_where}
+use Rattle.us_kind.specs.Defaults.{changed, value_at}
+use Rattle.us_kind.specs.Keys.{keys_where}
 
 -- the count at each tag
 abbrev pub Counts : Type 0
 Counts = FinMap tag_cmp ℤ
-
--- a tag as its numbers
-abbrev pub tag_code : Coded Tag
-tag_code =
-    code_by (ℕ × (ℕ × (ℕ × ℕ))) (coded× coded_ℕ (coded× coded_ℕ (coded× coded_ℕ coded_ℕ))) (λ t. (t.tid.site, (t.tid.coord, (t.tid.seq, t.place))))
-    (λ p. record { tid = record { site = p.0; coord = p.1.0; seq = p.1.1.0 }; place = p.1.1.1 }) (λ _. refl)
 
 -- counts as data
 abbrev pub counts_code : Coded Counts

@@ -8,12 +8,13 @@ use Rattle.std.specs.FinMap.{empty, entries, get-empty}
 use Rattle.std.specs.List.{list_any}
 use Rattle.std.specs.Ordering.{eq_by_cmp}
 use Rattle.us_kind.proofs.ListLemmas.{in_filter, filter_in}
+use Rattle.us_kind.specs.Histories.{any_in, in_any}
 use Rattle.us_kind.specs.Tags.{tag_cmp, tag_cmp-total, tag_cmp-IsAntisymmetric}
 use Rattle.us_kind.specs.Updates.{Update, Stamped, All, AllLater, StandsBefore, before, updates_of, update_of, with_sums}
 use Rattle.us_kind.specs.Words.{In, tag_of}
 use Rattle.us_kind.specs.declared.identity.Tag.{Tag}
-use Rattle.us_sets.specs.Defaults.{changed-commutes, value_at-with_value, key_same, key_itself}
-use Rattle.us_sets.specs.Keys.{keys_where-passes, passes-keys_where, any-keys_where, keys_where-any}
+use Rattle.us_kind.specs.Defaults.{changed-commutes, value_at-with_value, key_same, key_itself}
+use Rattle.us_kind.specs.Keys.{keys_where-passes, passes-keys_where, any-keys_where, keys_where-any}
 use Rattle.us_sets.specs.Marks.{Counts, count_at, shifted, taken, is_zero, is_positive, live_tags, is_live, Move, Put, Take, Still, moved, marks_after, is_there}
 
 -- ---- any order
@@ -233,24 +234,6 @@ more_added n a r e h = grind (arith, ints)
 count_at-all : {O E : Type 0} (move : E → Move) (us : List (Stamped O E)) (t : Tag) → count_at (marks_after move empty us) t ≡ ((pos 0 +ℤ pos (additions move t us)) -ℤ pos (removals move t us))
 count_at-all move us t = count_at-after move empty us t ∙ ap (λ r. (unwrap_or r (pos 0) +ℤ pos (additions move t us)) -ℤ pos (removals move t us)) (get-empty tag_cmp t)
 
-pub any_update : {O E : Type 0} (p : Update O → Bool) (us : List (Stamped O E)) → list_any p (updates_of us) ≡ true → (u : Stamped O E) × In u us × (p (update_of u) ≡ true)
-any_update p [] h = absurd (cc)
-any_update {O} {E} p (u ∷ us) h = on (p (update_of u)) refl h (any_update p us)
-  where
-    on : (b : Bool) → p (update_of u) ≡ b → (b || list_any p (updates_of us)) ≡ true → (list_any p (updates_of us) ≡ true → (v : Stamped O E) × In v us × (p (update_of v) ≡ true))
-        → (v : Stamped O E) × In v (u ∷ us) × (p (update_of v) ≡ true)
-    on true e h again = (u, inl refl, e)
-    on false e h again = let r = again h in (r.0, inr r.1, r.2)
-
-pub update_any : {O E : Type 0} (p : Update O → Bool) (us : List (Stamped O E)) (u : Stamped O E) → In u us → p (update_of u) ≡ true → list_any p (updates_of us) ≡ true
-update_any p [] u i h = absurd i
-update_any p (v ∷ us) u (inl e) h = rw (ap (λ (w : Stamped _ _). p (update_of w)) e ∙ h) refl
-update_any p (v ∷ us) u (inr i) h = on (p (update_of v)) (update_any p us u i h)
-  where
-    on : (b : Bool) → list_any p (updates_of us) ≡ true → (b || list_any p (updates_of us)) ≡ true
-    on true e = refl
-    on false e = e
-
 not_true : (b : Bool) → (b ≡ true → ⊥) → not b ≡ true
 not_true true h = absurd (h refl)
 not_true false h = refl
@@ -283,7 +266,7 @@ module _ {O E : Type 0} (move : E → Move) (adds removes : O → Bool) (after :
   taken_removed u i h =
       let taken = removals_in move (tag_of u.stamp) us h in
       let by = after_taken taken.update taken.here (tag_of u.stamp) taken.takes in
-      update_any (λ v. removes v.op && after v.tag (tag_of u.stamp)) us taken.update taken.here (rw (by.0, by.1) refl)
+      any_in (λ v. removes v.op && after v.tag (tag_of u.stamp)) us taken.update taken.here (rw (by.0, by.1) refl)
 
   -- what a removal meets is taken away, by it or by a removal before it
   met_taken : (v : Stamped O E) → In v us → removes v.op ≡ true → (t : Tag) → 1 ≤ additions move t (before after v us) → 1 ≤ removals move t us
@@ -298,7 +281,7 @@ module _ {O E : Type 0} (move : E → Move) (adds removes : O → Bool) (after :
   -- where an update after an addition removes it, it has been taken away
   removed_taken : (u : Stamped O E) → In u us → Adds move (tag_of u.stamp) u → removed (update_of u) ≡ true → 1 ≤ removals move (tag_of u.stamp) us
   removed_taken u i adds h =
-      let found = any_update (λ v. removes v.op && after v.tag (tag_of u.stamp)) us h in
+      let found = in_any (λ v. removes v.op && after v.tag (tag_of u.stamp)) us h in
       let v = found.0 in
       let both = and_parts _ _ found.2 in
       let here = filter_in (λ w. after (tag_of v.stamp) (tag_of w.stamp)) u us i both.1 in
@@ -317,11 +300,11 @@ module _ {O E : Type 0} (move : E → Move) (adds removes : O → Bool) (after :
       let kept : removed (update_of u) ≡ true → ⊥ = λ r. let n = removed_taken u added.here (record { puts = added.adds.puts; tag = refl }) r in
       let m : 1 ≤ removals move t us = subst (λ k. 1 ≤ removals move k us) same n in omega arith in
       let adds_it : adds u.op ≡ true = sym (follows u added.here).adding ∙ added.adds.puts in
-      update_any (λ w. adds w.op && not (removed w)) us u added.here (rw (adds_it, not_true _ kept) refl)
+      any_in (λ w. adds w.op && not (removed w)) us u added.here (rw (adds_it, not_true _ kept) refl)
 
   there_live : is_there adds removes (updates_of us) after ≡ true → is_live (marks_after move empty us) ≡ true
   there_live h =
-      let found = any_update (λ w. adds w.op && not (removed w)) us h in
+      let found = in_any (λ w. adds w.op && not (removed w)) us h in
       let u = found.0 in
       let both = and_parts _ _ found.2 in
       let t = tag_of u.stamp in

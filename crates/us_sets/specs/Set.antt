@@ -5,8 +5,8 @@ use Rattle.us_kind.specs.Updates.{Update}
 use Rattle.us_kind.specs.Words.{bytes_eq, ascending, tag_of}
 use Rattle.us_kind.specs.declared.identity.Stamp.{Stamp}
 use Rattle.us_kind.specs.declared.identity.Tag.{Tag}
-use Rattle.us_sets.specs.Defaults.{changed, value_at}
-use Rattle.us_sets.specs.Keys.{keys_where}
+use Rattle.us_kind.specs.Defaults.{changed, value_at}
+use Rattle.us_kind.specs.Keys.{keys_where}
 use Rattle.us_sets.specs.Marks.{Counts, Move, Put, Take, is_nothing, moved, is_live, live_tags, is_there}
 use Rattle.us_sets.specs.declared.set.SetOp.{SetOp}
 use Rattle.us_sets.specs.declared.set.SetOp.TheVariants.{SetMembers, SetContains, SetAdd, SetRemove}

@@ -10,15 +10,16 @@ use Rattle.std.specs.Prelude.{Option, Some, None, ◌↔◌, filter, filter_map,
 use Rattle.us_kind.proofs.ListLemmas.{in_filter, filter_in}
 use Rattle.us_kind.proofs.TestLemmas.{bytes_eq-true}
 use Rattle.us_kind.specs.Ascending.{ascending-rises, ascending_in, in_ascending, rises_same}
+use Rattle.us_kind.specs.Histories.{in_any}
 use Rattle.us_kind.specs.Updates.{Stamped, Commutes, CountsUpdates, AnswersInOrder, WasPrepared, IsHistory, before, state_after, updates_of, with_sums}
 use Rattle.us_kind.specs.Words.{In, ascending, bytes_eq, tag_of}
 use Rattle.us_kind.specs.declared.identity.Stamp.{Stamp}
 use Rattle.us_kind.specs.declared.identity.Tag.{Tag}
-use Rattle.us_sets.specs.Defaults.{changed-commutes, value_at-with_value, key_same, key_itself}
+use Rattle.us_kind.specs.Defaults.{changed-commutes, value_at-with_value, key_same, key_itself}
 use Rattle.us_sets.specs.Elements.{Elements}
-use Rattle.us_sets.specs.Keys.{keys_where, keys_where-passes, passes-keys_where, keys_where-rises}
+use Rattle.us_kind.specs.Keys.{keys_where, keys_where-passes, passes-keys_where, keys_where-rises}
 use Rattle.us_sets.specs.Marks.{Counts, Move, Put, Take, Still, is_nothing, is_live, live_tags, moved, marks_after}
-use Rattle.us_sets.specs.MarksLaws.{Follows, is_live-empty, moved-commutes, marks_after-with_sums, is_live-marks_after, follows_addition, follows_nothing, follows_removal, any_update}
+use Rattle.us_sets.specs.MarksLaws.{Follows, is_live-empty, moved-commutes, marks_after-with_sums, is_live-marks_after, follows_addition, follows_nothing, follows_removal}
 use Rattle.us_sets.specs.Set.{marks_of, set_initial, element_of, move_of, set_updated, set_answered, set_prepared, set_reads, adds, removes, added, is_member, set_value}
 use Rattle.us_sets.specs.declared.set.SetOp.{SetOp}
 use Rattle.us_sets.specs.declared.set.SetOp.TheVariants.{SetMembers, SetContains, SetAdd, SetRemove}
@@ -136,7 +137,7 @@ adds_added x (SetRemove y) e = absurd (true≢false (sym e))
 -- a member was added
 member_added : (after : Tag → Tag → Bool) (us : List (Stamped SetOp SetEffect)) (x : List ℕ) → is_member (updates_of us) after x ≡ true → In x (filter_map (λ v. added v.op) (updates_of us))
 member_added after us x h =
-    let found = any_update (λ u. adds x u.op && not (list_any (λ v. removes x v.op && after v.tag u.tag) (updates_of us))) us h in
+    let found = in_any (λ u. adds x u.op && not (list_any (λ v. removes x v.op && after v.tag u.tag) (updates_of us))) us h in
     in_added us found.0 x found.1 (adds_added x (found.0).op (and_parts _ _ found.2).0)
 
 members : (after : Tag → Tag → Bool) (us : List (Stamped SetOp SetEffect)) → IsHistory set_initial set_updated set_prepared after us

@@ -49,8 +49,8 @@ impl Model for SetState {
 
 impl SetState {
     ghost use Rattle.std.specs.FinMap.{empty, entries};
-    ghost use Rattle.us_sets.specs.Defaults.{with_value};
-    ghost use Rattle.us_sets.specs.Keys.{keys_where};
+    ghost use Rattle.us_kind.specs.Defaults.{with_value};
+    ghost use Rattle.us_kind.specs.Keys.{keys_where};
     ghost use Rattle.us_sets.specs.Marks.{is_live, is_nothing, live_tags};
     ghost use Rattle.us_sets.specs.Set.{marks_of};
 

@@ -1,7 +1,7 @@
 use Rattle.std.proofs.Common.{◌≡◌, map, ap, ◌∙◌, rules}
 use Rattle.std.proofs.lemmas.Map.Iter.{iter_end}
 use Rattle.std.specs.Map.Iter.{deref_pair}
-use Rattle.us_sets.specs.Keys.{keys_where}
+use Rattle.us_kind.specs.Keys.{keys_where}
 use Rattle.us_sets.specs.Marks.{is_positive, live_tags}
 use Rattle.us_sets.proofs.Views.{live_tags-view}
 use Rattle.us_sets.proofs.marks.Marks.live.Goals as goal

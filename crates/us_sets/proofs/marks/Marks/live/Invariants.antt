@@ -1,6 +1,6 @@
 use Rattle.std.proofs.Common.{◌≡◌, map}
 use Rattle.std.specs.Map.Iter.{deref_pair}
-use Rattle.us_sets.specs.Keys.{keys_where}
+use Rattle.us_kind.specs.Keys.{keys_where}
 use Rattle.us_sets.specs.Marks.{is_positive}
 use Rattle.us_sets.proofs.marks.Marks.live.Given as goal
 

@@ -1,6 +1,6 @@
 use Rattle.std.proofs.Common.{ap, sym, ◌∙◌}
 use Rattle.std.specs.FinMap.{empty}
-use Rattle.us_sets.specs.Defaults.{with_value}
+use Rattle.us_kind.specs.Defaults.{with_value}
 use Rattle.us_sets.specs.Marks.{is_nothing}
 use Rattle.us_sets.proofs.Views.{keep-remove, keep-insert}
 use Rattle.us_sets.proofs.set.SetState.keep.Goals as goal

@@ -2,7 +2,7 @@ use Rattle.std.proofs.Common.{◌≡◌, map, ap, ◌∙◌, rules}
 use Rattle.std.proofs.lemmas.Map.Iter.{iter_end}
 use Rattle.std.specs.FinMap.{entries}
 use Rattle.std.specs.Map.Iter.{deref_pair}
-use Rattle.us_sets.specs.Keys.{keys_where}
+use Rattle.us_kind.specs.Keys.{keys_where}
 use Rattle.us_sets.specs.Marks.{is_live}
 use Rattle.us_sets.proofs.Views.{members-view}
 use Rattle.us_sets.proofs.set.SetState.members.Goals as goal

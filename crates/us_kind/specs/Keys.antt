@@ -14,7 +14,7 @@ use Rattle.us_kind.specs.Ascending.{Rises}
 use Rattle.us_kind.specs.Orders.{bytes_less-cmp}
 use Rattle.us_kind.specs.Updates.{All}
 use Rattle.us_kind.specs.Words.{In, bytes_less}
-use Rattle.us_sets.specs.Defaults.{value_at, key_same, key_itself}
+use Rattle.us_kind.specs.Defaults.{value_at, key_same, key_itself}
 
 -- the keys of the entries whose values pass
 abbrev pub keys_where : {K X : Type 0} → (X → Bool) → List (K × X) → List K

@@ -1,0 +1,4 @@
+pub mod Multi
+pub mod MultiLaws
+pub mod Present
+pub mod Writes
