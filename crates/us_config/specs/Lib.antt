@@ -1,0 +1,5 @@
+pub mod Fault
+pub mod Address
+pub mod Values
+pub mod Shape
+pub mod Node
