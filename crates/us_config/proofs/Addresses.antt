@@ -40,13 +40,13 @@ port_is {E = E} port (Ok n) plus zeros some h =
     ]
 port_is {E = E} port (Err e) plus zeros some h =
     let p = parse_plain own {E = E} 16 port (Err e) h plus in
-    let long : 0 < length port = elim (cases_lt 0 (length port)) [ | inl lt ↦ lt | inr le ↦ absurd (let t = eq-eqb (length port) 0 (omega arith) in cc) ] in
+    let long : 0 < length port = elim (cases_lt 0 (length port)) [ inl lt ↦ lt | inr le ↦ absurd (let t = eq-eqb (length port) 0 (omega arith) in cc) ] in
     sym (false_unless (is_port port) (λ t.
-      let a = and_parts (all_ascii_digits port) _ t in
-      let b = and_parts (not (get_or port 0 0 == 48)) _ a.1 in
-      let c = and_parts (leb 1 (digits_value 10 port)) (leb (digits_value 10 port) 65535) b.1 in
-      let top : digits_value 10 port ≤ 65535 = leb-true _ _ c.1 in
-      p (a.0, long, omega arith)))
+    let a = and_parts (all_ascii_digits port) _ t in
+    let b = and_parts (not (get_or port 0 0 == 48)) _ a.1 in
+    let c = and_parts (leb 1 (digits_value 10 port)) (leb (digits_value 10 port) 65535) b.1 in
+    let top : digits_value 10 port ≤ 65535 = leb-true _ _ c.1 in
+    p (a.0, long, omega arith)))
 
 pub plus_is_none : (port : List ℕ) → get_or port 0 0 ≡ 43 → is_port port ≡ false
 plus_is_none [] e = absurd (omega arith)

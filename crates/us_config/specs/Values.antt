@@ -45,3 +45,8 @@ FailsAs (read.Refused key fault) said = said ≡ Err (read.Refused key fault)
 abbrev pub Says : {A : Type 0} → Result A ReadFault → Result A ReadFault → Type 0
 Says (Ok value) said = said ≡ Ok value
 Says (Err e) said = FailsAs e said
+
+-- the same, of what the code keeps otherwise
+abbrev pub Shows : {X Y : Type 0} → (X → Y) → Result X ReadFault → Result Y ReadFault → Type 0
+Shows view (Ok x) said = said ≡ Ok (view x)
+Shows view (Err e) said = FailsAs e said
