@@ -1,5 +1,5 @@
 -- Texts that are TOML.
-use Rattle.std.proofs.Common.{◌≡◌, ℕ, Bool, true, false, cond, List, Option, Some, None, Result, Ok, Err, refl, sym, ap, ◌∙◌, inl, inr}
+use Rattle.std.proofs.Common.{◌≡◌, ℕ, cond, List, Some, None, Ok, Err, refl, inl, inr}
 use Rattle.std.specs.Str.{is_utf8, IsUtf8}
 use Rattle.std.proofs.lemmas.Bool.{cases_Bool}
 use Rattle.std.proofs.lemmas.Str.{IsUtf8-from_is_utf8, is_utf8-from_IsUtf8}
@@ -7,7 +7,6 @@ use Rattle.toml.specs.Data.{Members}
 use Rattle.toml.specs.Parse.{parse_document}
 use Rattle.us_config.specs.declared.fault.Key.TheVariants.{Top}
 use Rattle.us_config.specs.declared.fault.ConfigFault.TheVariants.{NotToml}
-use Rattle.us_config.specs.declared.fault.ReadFault.{ReadFault}
 use Rattle.us_config.specs.declared.fault.ReadFault.TheVariants as read
 use Rattle.us_config.specs.Document.{or_not_toml}
 

@@ -41,6 +41,19 @@ fn shapes(rt: HostRuntime) -> Result<(), Fail> {
 }
 
 #[test]
+fn no_text(rt: HostRuntime) {
+    assert!(rt;
+        matches!(
+            read_table(rt.alloc(), &[255]),
+            Err(ReadFault::Refused {
+                key: Key::Top,
+                fault: ConfigFault::NotToml
+            })
+        )
+    );
+}
+
+#[test]
 fn addresses(rt: HostRuntime) {
     for (text, want) in [
         ("127.0.0.1:7101", true),

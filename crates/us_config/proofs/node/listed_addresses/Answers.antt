@@ -1,5 +1,4 @@
-use Rattle.std.proofs.Common.{sym, ap, ◌∙◌}
-use Rattle.us_config.proofs.Lists.{front_none, goes_on_at}
+use Rattle.us_config.proofs.Lists.{goes_on_at}
 use Rattle.us_config.proofs.node.listed_addresses.Goals as goal
 
 pub loop-value-preserved : goal.loop-value-preserved
