@@ -1,0 +1,4 @@
+pub mod Lists
+pub mod Addresses
+pub mod Keys
+pub mod Documents
