@@ -2,3 +2,4 @@ mod Reading
 mod Texts
 mod Causes
 mod Sure
+pub mod Built

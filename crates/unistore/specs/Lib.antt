@@ -2,3 +2,4 @@ pub mod Schedule
 pub mod Report
 pub mod Status
 pub mod Answers
+pub mod Built

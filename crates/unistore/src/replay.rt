@@ -1,4 +1,5 @@
 ghost use Rattle.std.specs.Prelude.{◌≡◌, IfOk, string_bytes};
+ghost use Rattle.us_world.specs.Lines.{AllBuilt};
 ghost use Rattle.unistore.specs.Answers.{Performs, Refuses, RefusesTooMuch, RefusesWords, Replays, Reports};
 ghost use Rattle.unistore.specs.Schedule.{schedule_of};
 ghost use Rattle.unistore.specs.Status.{refusal_text};
@@ -96,6 +97,7 @@ fn input_text(alloc: Global, line: u64, reason: Reason) -> Result<String, AllocE
 
 /// Performs the lines and writes the report.
 fn report_lines<K: Sink>(alloc: Global, lines: &[Line], sink: &mut K) -> Status
+    requires { AllBuilt lines.now }
     ensures { Reports lines.now
         (record { written = K.written sink.old; faults = K.faults sink.old }) (record { written = K.written sink.new; faults = K.faults sink.new })
         result }

@@ -1,8 +1,10 @@
-ghost use Rattle.std.specs.Prelude.{◌≡◌, ◌+◌, ◌<◌, ◌^◌, IfOk, length};
+ghost use Rattle.std.specs.Prelude.{◌≡◌, ◌+◌, ◌<◌, ◌^◌, IfOk, OnOk, length};
 ghost use Rattle.std.specs.List.{position_from};
 ghost use Rattle.us_schedule.specs.Lines.{line_read};
 ghost use Rattle.us_schedule.specs.Text.{text_lines};
+ghost use Rattle.us_world.specs.Lines.{AllBuilt};
 ghost use Rattle.unistore.specs.Schedule.{Takes, one_site, is_foreign, is_performed, schedule_behind, schedule_of};
+ghost use Rattle.unistore.specs.Built.{IsBuiltSchedule};
 
 use crate::Reason;
 use std::alloc::Global;
@@ -44,7 +46,8 @@ impl From<Memory> for LineStop {
 /// Reads the text of a schedule, in time that grows with its length.
 #[tactic(auto, unfolding(crate::specs::Schedule::schedule_of))]
 pub fn read_schedule(alloc: Global, text: &[u8]) -> Result<Schedule, Memory>
-    ensures { IfOk result (λ schedule. schedule ≡ schedule_of text.now) }
+    ensures read { IfOk result (λ schedule. schedule ≡ schedule_of text.now) }
+    ensures built { IfOk result IsBuiltSchedule }
 {
     let parts = match split_text(text) {
         Ok(parts) => parts,
@@ -90,7 +93,8 @@ fn is_foreign(line: &[u8]) -> bool
 /// Reads the lines behind the separator, of which the first has this number.
 fn read_behind(alloc: Global, text: &[u8], first: u64) -> Result<Schedule, Memory>
     requires { first + length (text_lines text.now) < 2 ^ 64 }
-    ensures { IfOk result (λ schedule. schedule ≡ schedule_behind first (text_lines text.now)) }
+    ensures read { IfOk result (λ schedule. schedule ≡ schedule_behind first (text_lines text.now)) }
+    ensures built { IfOk result IsBuiltSchedule }
 {
     let mut lines = Items::new(alloc);
     let mut number = first;
@@ -113,8 +117,10 @@ fn read_behind(alloc: Global, text: &[u8], first: u64) -> Result<Schedule, Memor
 }
 
 /// Adds what a line brings, which is nothing where it is blank or a comment.
+#[tactic(auto, using(crate::proofs::Built::joined))]
 fn take_line(alloc: Global, text: &[u8], lines: &mut Items<Line>) -> Result<(), LineStop>
-    ensures { Takes result lines.old lines.new (line_read one_site text.now) }
+    ensures taken { Takes result lines.old lines.new (line_read one_site text.now) }
+    ensures built { AllBuilt lines.old → OnOk result (AllBuilt lines.new) }
 {
     match read_line(alloc, text, ONE_SITE) {
         Ok(None) => Ok(()),
