@@ -1,0 +1,3 @@
+pub mod SpelledIsRead
+pub mod ReadIsSpelled
+pub mod NoneBegins

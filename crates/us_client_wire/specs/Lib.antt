@@ -1,3 +1,5 @@
 pub mod Fields
 pub mod Requests
+pub mod Reading
 pub mod Replies
+pub mod Laws

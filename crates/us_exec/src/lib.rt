@@ -1,7 +1,9 @@
 //! What a user gets: an execution of transactions, and what it means that it is consistent.
 #![tactic(auto)]
 
-use us_kind::{Items, Tid};
+ghost use Rattle.std.specs.Prelude.{◌≡◌, IfOk};
+
+use us_kind::{Items, Memory, Tid};
 use us_value::{Answer, Item, Op};
 
 /// A session: the site and the coordinator that it was opened at, and its number there, from 1.
@@ -13,11 +15,23 @@ pub struct SessionName {
 }
 
 /// An operation that was answered.
-#[derive(Drop)]
+#[derive(Debug, PartialEq, Eq, Drop)]
 pub struct Done {
     pub item: Item,
     pub op: Op,
     pub answer: Answer,
+}
+
+impl Done {
+    pub fn copy(&self) -> Result<Done, Memory>
+        ensures { IfOk result (λ copy. copy ≡ self.now) }
+    {
+        Ok(Done {
+            item: self.item.copy()?,
+            op: self.op.copy()?,
+            answer: self.answer.copy()?,
+        })
+    }
 }
 
 /// Of a session, so many of its committed transactions, the first of them first.
@@ -71,4 +85,25 @@ pub struct Execution {
     pub entries: Items<Entry>,
     pub loose: Items<Loose>,
     pub links: Items<Link>,
+}
+
+#[cfg(test)]
+mod tests {
+    use super::*;
+    use std::test::Fail;
+    use us_kind::Bytes;
+
+    #[test]
+    fn a_copy_is_equal(rt: HostRuntime) -> Result<(), Fail> {
+        let done = Done {
+            item: Item {
+                space: 1,
+                id: Bytes::from_slice(rt.alloc(), b"a")?,
+            },
+            op: Op::RegisterRead,
+            answer: Answer::Nothing,
+        };
+        assert_eq!(rt; done.copy()?, done);
+        Ok(())
+    }
 }

@@ -1,0 +1,4 @@
+pub mod ListLemmas
+pub mod Permutations
+pub mod SameBytes
+pub mod TestLemmas

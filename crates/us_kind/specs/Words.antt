@@ -1,5 +1,5 @@
 -- Words on lists, bytes and identities.
-use Rattle.std.specs.Prelude.{◌≡◌, ℕ, List, [], ◌∷◌, Bool, true, false, ◌&&◌, ◌||◌, ◌⊎◌, ◌==◌, nat_lt, Option, Some, None}
+use Rattle.std.specs.Prelude.{◌≡◌, ℕ, List, [], ◌∷◌, Bool, true, false, ◌&&◌, ◌||◌, ◌⊎◌, ◌==◌, nat_lt, Option, Some, None, if◌then◌else◌}
 use Rattle.us_kind.specs.declared.identity.Tid.{Tid}
 use Rattle.us_kind.specs.declared.identity.Tag.{Tag}
 use Rattle.us_kind.specs.declared.identity.Stamp.{Stamp}
@@ -56,3 +56,13 @@ stamp_lex a b rest =
 -- the arbitration order: by sum, transaction and place
 abbrev pub stamp_less : Stamp → Stamp → Bool
 stamp_less a b = stamp_lex a b false
+
+-- with x in its place, unless it is there
+abbrev pub put_bytes : List ℕ → List (List ℕ) → List (List ℕ)
+put_bytes x [] = x ∷ []
+put_bytes x (y ∷ ys) = if bytes_less x y then x ∷ y ∷ ys else (if bytes_less y x then y ∷ put_bytes x ys else y ∷ ys)
+
+-- these, ascending by bytes, each once
+abbrev pub ascending : List (List ℕ) → List (List ℕ)
+ascending [] = []
+ascending (x ∷ xs) = put_bytes x (ascending xs)

@@ -5,9 +5,15 @@
 mod bytes;
 mod identity;
 mod items;
+mod laws;
 mod memory;
+mod replicated;
+mod slot;
 
 pub use bytes::Bytes;
 pub use identity::{Stamp, Tag, Tid};
 pub use items::Items;
+pub use laws::{answers_in_any_order, order_is_free};
 pub use memory::Memory;
+pub use replicated::Replicated;
+pub use slot::Slot;

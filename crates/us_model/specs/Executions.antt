@@ -85,6 +85,10 @@ no_history = record { begun = []; performed = []; committed = []; left = []; ref
 abbrev pub history_of : List Note → History
 history_of notes = noted_all no_history notes
 
+-- the refused requests, in order
+abbrev pub refusals_of : List Note → List Refusal
+refusals_of notes = (history_of notes).refused
+
 -- BEFORE, BY STEPS: a step leads from a committed transaction to a later one of its session, and from one that updates
 -- to each other one whose snapshot its vector is at most
 abbrev pub is_stamped : Committed → Bool

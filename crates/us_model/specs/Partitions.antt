@@ -38,29 +38,29 @@ known me p = with_entry p.got me.site (own_known p.clock p.prepared)
 abbrev pub base : Actor → Partition → List ℕ
 base me p = known me p
 
--- GET: the clock rises to the snapshot, and the question waits
+-- GET: the clock rises to the snapshot, and the question waits. The one partition keeps every item, and no floor is raised
 abbrev pub get : Actor → Partition → Get → Partition
 get me p g = record p { clock = max p.clock (entry g.snapshot me.site); parked = p.parked ++ g ∷ [] }
 
 -- PREPARE
 -- the least number above n that leaves the remainder r modulo 64
-unfoldable pub next_stamp : ℕ → ℕ → ℕ
-next_stamp r n = n + 1 + ((r + 64 - (n + 1) % 64) % 64)
+unfoldable pub next_timestamp : ℕ → ℕ → ℕ
+next_timestamp r n = n + 1 + ((r + 64 - (n + 1) % 64) % 64)
 
 abbrev pub contains_tid : Tid → List Tid → Bool
 contains_tid tid tids = list_any (λ t. tid_eq t tid) tids
 
-abbrev pub stamp_for : Actor → Partition → List ℕ → ℕ
-stamp_for me p snapshot = next_stamp me.actor (max p.clock (entry snapshot me.site))
+abbrev pub timestamp_for : Actor → Partition → List ℕ → ℕ
+timestamp_for me p snapshot = next_timestamp me.actor (max p.clock (entry snapshot me.site))
 
 abbrev pub may_prepare : Actor → Partition → Tid → List ℕ → Bool
-may_prepare me p tid snapshot = not (contains_tid tid p.done) && nat_le (stamp_for me p snapshot) (2 ^ 62)
+may_prepare me p tid snapshot = not (contains_tid tid p.done) && nat_le (timestamp_for me p snapshot) (2 ^ 62)
 
 abbrev pub prepared : Actor → Partition → Tid → List ℕ → List Write → Partition
 prepared me p tid snapshot writes =
     record p {
-      clock = stamp_for me p snapshot;
-      prepared = p.prepared ++ record { tid = tid; ts = stamp_for me p snapshot; snapshot = snapshot; writes = writes } ∷ [];
+      clock = timestamp_for me p snapshot;
+      prepared = p.prepared ++ record { tid = tid; ts = timestamp_for me p snapshot; snapshot = snapshot; writes = writes } ∷ [];
       done = p.done ++ tid ∷ [];
     }
 
@@ -116,8 +116,8 @@ unfoldable pub state_for : List LogTx → Get → State
 state_for log g = after_own g.tid (after_log g.item g.snapshot (initial (kind_of g.item.space)) log) g.own
 
 -- WAKE, the partition's part: the questions whose snapshot is known are answered
-abbrev pub may_answer : Actor → Partition → Get → Bool
-may_answer me p g = at_most g.snapshot (known me p)
+abbrev pub may_answer : List ℕ → Get → Bool
+may_answer known g = at_most g.snapshot known
 
 abbrev pub version_for : Actor → List LogTx → Get → Packet
 version_for me log g =
@@ -132,9 +132,9 @@ version_for me log g =
       });
     }
 
-abbrev pub versions : Actor → Partition → List Get → List Packet
-versions me p [] = []
-versions me p (g ∷ gs) = if may_answer me p g then version_for me p.log g ∷ versions me p gs else versions me p gs
+abbrev pub versions : Actor → List ℕ → List LogTx → List Get → List Packet
+versions me known log [] = []
+versions me known log (g ∷ gs) = if may_answer known g then version_for me log g ∷ versions me known log gs else versions me known log gs
 
-abbrev pub still_parked : Actor → Partition → List Get → List Get
-still_parked me p gs = filter (λ g. not (may_answer me p g)) gs
+abbrev pub still_parked : List ℕ → List Get → List Get
+still_parked known gs = filter (λ g. not (may_answer known g)) gs

@@ -31,7 +31,7 @@ use Rattle.us_model.specs.declared.event.Note.TheVariants as note
 use Rattle.us_model.specs.declared.event.ClientOut.{ClientOut}
 use Rattle.us_model.specs.declared.coordinator.Transaction.{Transaction}
 use Rattle.us_model.specs.declared.coordinator.Ask.{Ask}
-use Rattle.us_model.specs.declared.coordinator.Told.{Told}
+use Rattle.us_model.specs.declared.coordinator.PreparedAt.{PreparedAt}
 use Rattle.us_model.specs.declared.coordinator.Waiting.{Waiting}
 use Rattle.us_model.specs.declared.coordinator.Waiting.TheVariants as waits
 use Rattle.us_model.specs.declared.coordinator.Session.{Session}
@@ -158,12 +158,16 @@ run_asks d s (a ∷ rest) = resume (request d (record s { asks = rest }) a.at a.
 unfoldable pub run_session : Desk → Session → Acted
 run_session d s = if is_nothing s.waits then run_asks d s s.asks else stays d s
 
--- CLOSE: requests are dropped, and the transaction ends as left, but for one that is being committed
+-- CLOSE: requests and what is left of the stream are dropped, and the transaction ends as left, but for one that is being
+-- committed, which goes on
+abbrev pub no_stream : Reader
+no_stream = record { limit = 65536; unread = [] }
+
 abbrev pub closed : Session → Session
-closed s = record s { asks = []; closed = true }
+closed s = record s { stream = no_stream; asks = []; closed = true }
 
 abbrev pub left : Desk → Session → Option Transaction → Acted
-left d s None = stays d (closed s)
+left d s None = stays d (record (closed s) { waits = waits.Nothing })
 left d s (Some tx) = stays (with_note d (note.Left tx.tid)) (record (closed s) { running = None; waits = waits.Nothing })
 
 abbrev pub closes_in : Desk → Session → Waiting → Acted
@@ -239,7 +243,7 @@ version v d s = version_in v d s s.waits s.running
 abbrev pub without : ℕ → List ℕ → List ℕ
 without part parts = filter (λ p. not (p == part)) parts
 
-abbrev pub greatest : List Told → ℕ
+abbrev pub greatest : List PreparedAt → ℕ
 greatest [] = 0
 greatest (t ∷ ts) = max t.ts (greatest ts)
 
@@ -250,7 +254,7 @@ commits d tid vector (part ∷ parts) = to_partition d part (message.Commit tid 
 abbrev pub decided : Desk → Session → ℕ → Transaction → List ℕ → Acted
 decided d s at tx vector = ended (with_packets d (commits d tx.tid vector (partitions_written tx.writes))) s at tx vector
 
-abbrev pub told_all : Desk → Session → ℕ → Transaction → List ℕ → List Told → Acted
+abbrev pub told_all : Desk → Session → ℕ → Transaction → List ℕ → List PreparedAt → Acted
 told_all d s at tx [] told = decided d s at tx (with_entry tx.snapshot d.me.site (greatest told))
 told_all d s at tx (part ∷ parts) told = stays d (record s { waits = waits.Prepared at (part ∷ parts) told })
 

@@ -1,6 +1,8 @@
 -- One step of a site: an event is taken by one of its actors, which then wakes.
-use Rattle.std.specs.Prelude.{ℕ, ◌+◌, ◌-◌, List, [], ◌∷◌, ◌++◌, length, Bool, true, false, if◌then◌else◌, nat_lt, Option, Some, None, slice_get, slice_set}
+use Rattle.std.specs.Prelude.{ℕ, ◌+◌, ◌-◌, List, [], ◌∷◌, ◌++◌, length, Bool, true, false, ◌&&◌, ◌==◌, if◌then◌else◌, nat_lt, Option, Some, None, slice_get, slice_set}
 use Rattle.us_base.specs.Vector.{zero}
+use Rattle.us_value.specs.declared.item.Item.{Item}
+use Rattle.us_value.specs.declared.item.Write.{Write}
 use Rattle.us_wire.specs.Frames.{Reader}
 use Rattle.us_peer_wire.specs.declared.message.Actor.{Actor}
 use Rattle.us_peer_wire.specs.declared.message.Packet.{Packet}
@@ -14,8 +16,8 @@ use Rattle.us_model.specs.declared.coordinator.Session.{Session}
 use Rattle.us_model.specs.declared.coordinator.Waiting.TheVariants as waits
 use Rattle.us_model.specs.declared.coordinator.Desk.{Desk}
 use Rattle.us_model.specs.State.{Partition, Coordinator, Shard, Site}
-use Rattle.us_model.specs.Partitions.{base, get, may_prepare, prepared as prepared_here, stamp_for, commit, versions, still_parked}
-use Rattle.us_model.specs.Sessions.{Acted, AllActed, each_session, bytes, version, prepared, run_session}
+use Rattle.us_model.specs.Partitions.{known, base, get, may_prepare, prepared as prepared_here, timestamp_for, commit, versions, still_parked}
+use Rattle.us_model.specs.Sessions.{no_stream, Acted, AllActed, each_session, bytes, version, prepared, run_session}
 
 abbrev pub no_outputs : Outputs
 no_outputs = record { packets = []; client = []; notes = [] }
@@ -44,16 +46,13 @@ abbrev pub with_partition : Went → Partition → List Packet → Went
 with_partition w p ps = record { shard = record w.shard { partition = p }; out = record w.out { packets = w.out.packets ++ ps } }
 
 -- OPEN: a session with the coordinator's next number
-abbrev pub client_limit : ℕ
-client_limit = 65536
-
 abbrev pub new_session : ℕ → Session
 new_session number =
     record {
       number = number;
       past = zero;
       asked = 0;
-      stream = record { limit = client_limit; unread = [] };
+      stream = no_stream;
       begun = false;
       count = 0;
       running = None;
@@ -82,10 +81,28 @@ take_message me from w (message.Get tid place at snapshot item op own) =
 take_message me from w (message.Version v) = all_sessions (version v) me w
 take_message me from w (message.Prepare tid snapshot writes) =
     if may_prepare me w.shard.partition tid snapshot
-    then with_partition w (prepared_here me w.shard.partition tid snapshot writes) (answer_to me from (message.Prepared tid (stamp_for me w.shard.partition snapshot)) ∷ [])
+    then with_partition w (prepared_here me w.shard.partition tid snapshot writes) (answer_to me from (message.Prepared tid (timestamp_for me w.shard.partition snapshot)) ∷ [])
     else w
 take_message me from w (message.Prepared tid ts) = all_sessions (prepared from.actor tid ts) me w
 take_message me from w (message.Commit tid vector) = with_partition w (commit me w.shard.partition tid vector) []
+
+-- A PACKET THAT AN ACTOR TAKES: from a partition's actor of the own site, about items of a configured space
+abbrev pub is_configured : Item → Bool
+is_configured item = item.space == 1
+
+abbrev pub all_configured : List Write → Bool
+all_configured [] = true
+all_configured (w ∷ ws) = is_configured w.item && all_configured ws
+
+abbrev pub message_fits : Message → Bool
+message_fits (message.Get tid place at snapshot item op own) = is_configured item
+message_fits (message.Version v) = true
+message_fits (message.Prepare tid snapshot writes) = all_configured writes
+message_fits (message.Prepared tid ts) = true
+message_fits (message.Commit tid vector) = true
+
+abbrev pub is_for : Actor → Packet → Bool
+is_for me packet = (packet.from.site == me.site) && ((packet.from.actor == 1) && message_fits packet.message)
 
 -- AN EVENT, and its actor
 abbrev pub actor_of : Event → ℕ
@@ -96,14 +113,13 @@ actor_of (event.Take packet) = packet.to.actor
 unfoldable pub take_event : Actor → Went → Event → Went
 take_event me w (event.Open coord) = opened coord w
 take_event me w (event.Bytes coord session piece) = all_sessions (bytes session piece) me w
-take_event me w (event.Take packet) = take_message me packet.from w packet.message
+take_event me w (event.Take packet) = if is_for me packet then take_message me packet.from w packet.message else w
 
 -- WAKE: waiting questions are answered, and then each session runs
 abbrev pub answers : Actor → Went → Went
 answers me w =
-    with_partition w
-    (record w.shard.partition { parked = still_parked me w.shard.partition w.shard.partition.parked })
-    (versions me w.shard.partition w.shard.partition.parked)
+    let p = w.shard.partition in
+    with_partition w (record p { parked = still_parked (known me p) p.parked }) (versions me (known me p) p.log p.parked)
 
 unfoldable pub wake : Actor → Went → Went
 wake me w = all_sessions run_session me (answers me w)

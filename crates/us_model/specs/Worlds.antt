@@ -5,7 +5,12 @@ use Rattle.us_peer_wire.specs.declared.message.Packet.{Packet}
 use Rattle.us_model.specs.declared.event.Event.{Event}
 use Rattle.us_model.specs.declared.event.Event.TheVariants as event
 use Rattle.us_model.specs.declared.event.Note.{Note}
-use Rattle.us_model.specs.State.{Site}
+use Rattle.us_exec.specs.declared.SessionName.{SessionName}
+use Rattle.us_model.specs.declared.coordinator.Ask.{Ask}
+use Rattle.us_model.specs.declared.coordinator.Session.{Session}
+use Rattle.us_model.specs.declared.coordinator.Waiting.{Waiting}
+use Rattle.us_model.specs.declared.coordinator.Waiting.TheVariants as waits
+use Rattle.us_model.specs.State.{Shard, Site}
 use Rattle.us_model.specs.Sites.{Stepped, site_step, new_site}
 
 -- the sites from 1, the packets in the order of sending, the numbers of those that were delivered (a packet may come
@@ -72,3 +77,39 @@ least_due from to numbers k (p ∷ ps) = if is_due from to numbers k p then Some
 
 abbrev pub least_undelivered : World → ℕ → ℕ → Option ℕ
 least_undelivered w from to = least_due from to w.delivered 1 w.packets
+
+-- a flush from one site to another: again and again the least undelivered packet, until none is left
+abbrev pub Flushes : ℕ → ℕ → World → List Happening → Type 0
+Flushes from to w [] = least_undelivered w from to ≡ None
+Flushes from to w (h ∷ hs) = ((k : ℕ) × (least_undelivered w from to ≡ Some k) × (h ≡ Comes k)) × Flushes from to (happens w h) hs
+
+-- THE REQUESTS THAT WAIT: of each open session with unanswered requests the first one, by its number
+pub record Waits : Type 0 where
+  pub session : SessionName
+  pub at : ℕ
+
+abbrev pub first_ask : List Ask → Option ℕ
+first_ask [] = None
+first_ask (a ∷ rest) = Some a.at
+
+abbrev pub first_unanswered : List Ask → Waiting → Option ℕ
+first_unanswered asks waits.Nothing = first_ask asks
+first_unanswered asks (waits.Version at place item op) = Some at
+first_unanswered asks (waits.Prepared at missing told) = Some at
+
+abbrev pub waits_one : ℕ → ℕ → Session → Option ℕ → List Waits → List Waits
+waits_one site coord s None rest = rest
+waits_one site coord s (Some at) rest =
+    if s.closed then rest else record { session = record { site = site; coord = coord; number = s.number }; at = at } ∷ rest
+
+abbrev pub waits_in : ℕ → ℕ → List Session → List Waits
+waits_in site coord [] = []
+waits_in site coord (s ∷ ss) = waits_one site coord s (first_unanswered s.asks s.waits) (waits_in site coord ss)
+
+abbrev pub waits_at : ℕ → ℕ → List Shard → List Waits
+waits_at site coord [] = []
+waits_at site coord (shard ∷ shards) = waits_in site coord shard.coordinator.sessions ++ waits_at site (coord + 1) shards
+
+abbrev pub waits_of : List Site → List Waits
+waits_of [] = []
+waits_of (site ∷ sites) = waits_at site.number 1 site.shards ++ waits_of sites

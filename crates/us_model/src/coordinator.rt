@@ -25,7 +25,7 @@ pub struct Ask {
 
 /// The timestamp under which a partition has prepared a transaction.
 #[derive(Clone, Copy, Debug, PartialEq, Eq)]
-pub struct Told {
+pub struct PreparedAt {
     pub part: u8,
     pub ts: u64,
 }
@@ -45,7 +45,7 @@ pub enum Waiting {
     Prepared {
         at: u64,
         missing: Items<u8>,
-        told: Items<Told>,
+        told: Items<PreparedAt>,
     },
 }
 

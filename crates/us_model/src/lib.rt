@@ -6,7 +6,7 @@ mod event;
 mod example;
 mod partition;
 
-pub use coordinator::{Ask, Desk, Session, Told, Transaction, Waiting};
+pub use coordinator::{Ask, Desk, PreparedAt, Session, Transaction, Waiting};
 pub use event::{ClientOut, Event, Note, Outputs};
 pub use example::worked_example;
 pub use partition::{Get, LogTx, PreparedTx};

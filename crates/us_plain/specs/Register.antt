@@ -1,5 +1,5 @@
 -- The register.
-use Rattle.std.specs.Prelude.{ℕ, List, Bool, Option, Some, None, if◌then◌else◌, filter_map}
+use Rattle.std.specs.Prelude.{ℕ, List, Bool, true, false, Option, Some, None, if◌then◌else◌, filter_map}
 use Rattle.us_kind.specs.Words.{bytes_less, last_of, stamp_lex}
 use Rattle.us_kind.specs.Updates.{Update}
 use Rattle.us_kind.specs.declared.identity.Stamp.{Stamp}
@@ -44,6 +44,11 @@ register_answered (RegisterWrite value) s = Done
 abbrev pub register_prepared : Tag → RegisterOp → RegisterState → Option RegisterEffect
 register_prepared tag RegisterRead s = None
 register_prepared tag (RegisterWrite value) s = Some (Written value)
+
+-- whether an operation only reads
+abbrev pub register_reads : RegisterOp → Bool
+register_reads RegisterRead = true
+register_reads (RegisterWrite value) = false
 
 -- the value that an operation writes, if it writes
 abbrev pub written : RegisterOp → Option (List ℕ)

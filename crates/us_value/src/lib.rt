@@ -3,6 +3,10 @@
 
 mod item;
 mod operation;
+mod state;
+#[cfg(test)]
+mod tests;
 
 pub use item::{Item, Write};
 pub use operation::{Answer, Effect, Kind, Op, State};
+pub use state::{answer, apply, prepare};

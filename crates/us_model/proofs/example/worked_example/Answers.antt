@@ -3,12 +3,12 @@ use Rattle.us_base.specs.Vector.{at_most, join, with_entry}
 use Rattle.us_wire.specs.Frames.{frames_of}
 use Rattle.us_client_wire.specs.Requests.{request_of}
 use Rattle.us_client_wire.specs.Replies.{reply_spelling}
-use Rattle.us_model.specs.Partitions.{own_known, next_stamp, state_for}
+use Rattle.us_model.specs.Partitions.{own_known, next_timestamp, state_for}
 use Rattle.us_model.specs.Sessions.{request, run_session, framed, bytes, version, prepared}
 use Rattle.us_model.specs.Sites.{take_event, wake}
 use Rattle.us_model.specs.Worlds.{happens}
 use Rattle.us_model.proofs.example.worked_example.Goals as goal
 
 pub returns : goal.returns
-unfolding at_most join with_entry frames_of request_of reply_spelling own_known next_stamp state_for request run_session framed bytes version prepared take_event wake happens
+unfolding at_most join with_entry frames_of request_of reply_spelling own_known next_timestamp state_for request run_session framed bytes version prepared take_event wake happens
 returns c = refl

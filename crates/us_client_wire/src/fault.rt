@@ -1,0 +1,32 @@
+use std::error::Error;
+use std::fmt;
+use us_kind::Memory;
+
+/// Why a frame was not read: it is no spelling, or an allocation failed.
+#[derive(Clone, Copy, Debug, PartialEq, Eq)]
+pub enum DecodeFault {
+    Malformed,
+    Memory,
+}
+
+impl fmt::Display for DecodeFault {
+    fn fmt<W: fmt::Write>(&self, f: &mut fmt::Formatter<W>) -> fmt::Result {
+        match self {
+            DecodeFault::Malformed => f.write_str("malformed frame"),
+            DecodeFault::Memory => f.write_str("out of memory"),
+        }
+    }
+}
+
+impl Error for DecodeFault {}
+
+impl From<Memory> for DecodeFault {
+    ghost use Rattle.std.specs.Prelude.{◌≡◌};
+    ghost use Rattle.us_client_wire.specs.declared.fault.DecodeFault.TheVariants as fault;
+
+    ghost from_gives = { λ _ result. result ≡ fault.Memory };
+
+    fn from(_error: Memory) -> DecodeFault {
+        DecodeFault::Memory
+    }
+}

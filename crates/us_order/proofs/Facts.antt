@@ -1,0 +1,399 @@
+-- The facts that every event keeps.
+use Rattle.std.proofs.Common.{◌≡◌, ◌⊎◌, inl, inr, ⊎_elim, ℕ, ◌+◌, ◌<◌, ◌≤◌, ◌^◌, List, [], ◌∷◌, ◌++◌, length, append-nil, append_assoc, Bool, true, false, refl, sym, ap, ◌∙◌, subst, arith, cond, true≢false}
+use Rattle.std.specs.Prelude.{Some, None, Option}
+use Rattle.us_kind.specs.Words.{In, tid_eq}
+use Rattle.us_kind.specs.declared.identity.Tid.{Tid}
+use Rattle.us_kind.proofs.ListLemmas.{in_append, in_split, in_later, in_grown, GoesOn, goes_nowhere, goes_further}
+use Rattle.us_kind.proofs.TestLemmas.{tid_eq-true, tid_eq-same}
+use Rattle.us_base.specs.Vector.{entry, at_most}
+use Rattle.us_value.specs.declared.item.Item.{Item}
+use Rattle.us_value.specs.declared.item.Write.{Write}
+use Rattle.us_value.specs.declared.operation.Op.{Op}
+use Rattle.us_value.specs.declared.operation.Op.TheVariants.{RegisterRead, RegisterWrite}
+use Rattle.us_value.specs.declared.operation.Effect.{Effect}
+use Rattle.us_value.specs.declared.operation.Effect.TheVariants as effect
+use Rattle.us_value.specs.declared.operation.State.{State}
+use Rattle.us_value.specs.Values.{initial, answered}
+use Rattle.us_exec.specs.declared.SessionName.{SessionName}
+use Rattle.us_exec.specs.declared.Done.{Done}
+use Rattle.us_peer_wire.specs.declared.message.Message.{Message}
+use Rattle.us_peer_wire.specs.declared.message.Message.TheVariants as message
+use Rattle.us_peer_wire.specs.declared.message.Form.{Form}
+use Rattle.us_peer_wire.specs.declared.message.Form.TheVariants as form
+use Rattle.us_model.specs.declared.partition.LogTx.{LogTx}
+use Rattle.us_model.specs.declared.partition.PreparedTx.{PreparedTx}
+use Rattle.us_model.specs.declared.partition.Get.{Get}
+use Rattle.us_model.specs.declared.coordinator.Transaction.{Transaction}
+use Rattle.us_model.specs.declared.coordinator.Waiting.{Waiting}
+use Rattle.us_model.specs.declared.coordinator.Waiting.TheVariants as waits
+use Rattle.us_model.specs.State.{Partition}
+use Rattle.us_model.specs.Partitions.{known, after_log, after_own, kind_of}
+use Rattle.us_model.specs.Sessions.{own_effects, write_of}
+use Rattle.us_model.specs.Executions.{Begun, Performed, Committed, History, ops_of, committed_in}
+use Rattle.us_order.proofs.Ledgers.{me, name, Ledger}
+use Rattle.us_order.proofs.Partition.{PartitionOk}
+
+-- THE WRITES OF A TRANSACTION'S OPERATIONS
+abbrev pub effect_for : Op → Option Effect
+effect_for RegisterRead = None
+effect_for (RegisterWrite v) = Some (effect.RegisterWrite v)
+
+abbrev pub writes_of : ℕ → List Done → List Write
+writes_of n [] = []
+writes_of n (d ∷ ds) = write_of d.item n (effect_for d.op) ++ writes_of (n + 1) ds
+
+pub writes_of-push : (ds : List Done) (n : ℕ) (d : Done) → writes_of n (ds ++ d ∷ []) ≡ writes_of n ds ++ write_of d.item (n + length ds) (effect_for d.op)
+writes_of-push [] n d = append-nil _ ∙ ap (λ k. write_of d.item k (effect_for d.op)) (omega arith)
+writes_of-push (x ∷ ds) n d =
+    let e : n + 1 + length ds ≡ n + length (x ∷ ds) = omega arith in
+    ap (λ l. write_of x.item n (effect_for x.op) ++ l) (writes_of-push ds (n + 1) d ∙ ap (λ k. writes_of (n + 1) ds ++ write_of d.item k (effect_for d.op)) e)
+    ∙ sym (append_assoc (write_of x.item n (effect_for x.op)) (writes_of (n + 1) ds) _)
+
+abbrev pub HasWrites : List Write → Type 0
+HasWrites [] = ⊥
+HasWrites (w ∷ ws) = Unit {0}
+
+-- THE OPERATIONS THAT WERE TOLD OF A TRANSACTION
+pub ops_of-append : (tid : Tid) (xs ys : List Performed) → ops_of tid (xs ++ ys) ≡ ops_of tid xs ++ ops_of tid ys
+ops_of-append tid [] ys = refl
+ops_of-append tid (x ∷ xs) ys = on (tid_eq x.tid tid) (ops_of-append tid xs ys)
+  where
+    on : (b : Bool) → ops_of tid (xs ++ ys) ≡ ops_of tid xs ++ ops_of tid ys → cond b (x.done ∷ ops_of tid (xs ++ ys)) (ops_of tid (xs ++ ys)) ≡ cond b (x.done ∷ ops_of tid xs) (ops_of tid xs) ++ ops_of tid ys
+    on true e = ap (λ l. x.done ∷ l) e
+    on false e = e
+
+pub ops_of-none : (tid : Tid) (xs : List Performed) → ((q : Performed) → In q xs → q.tid ≡ tid → ⊥) → ops_of tid xs ≡ []
+ops_of-none tid [] none = refl
+ops_of-none tid (x ∷ xs) none = on (tid_eq x.tid tid) refl (ops_of-none tid xs (λ q i. none q (inr i)))
+  where
+    on : (b : Bool) → tid_eq x.tid tid ≡ b → ops_of tid xs ≡ [] → cond b (x.done ∷ ops_of tid xs) (ops_of tid xs) ≡ []
+    on true e again = absurd (none x (inl refl) (tid_eq-true x.tid tid e))
+    on false e again = again
+
+pub ops_of-same : (tid : Tid) (xs : List Performed) (d : Done) → ops_of tid (xs ++ record { tid = tid; done = d } ∷ []) ≡ ops_of tid xs ++ d ∷ []
+ops_of-same tid xs d = ops_of-append tid xs _ ∙ ap (λ l. ops_of tid xs ++ l) (on (tid_eq tid tid) (tid_eq-same tid))
+  where
+    on : (b : Bool) → b ≡ true → cond b (d ∷ []) [] ≡ d ∷ []
+    on true e = refl
+    on false e = absurd (true≢false (sym e))
+
+-- nothing new was told of this one
+pub ops_of-still : (tid : Tid) (xs ys : List Performed) (g : GoesOn xs ys) → ((q : Performed) → In q g.rest → q.tid ≡ tid → ⊥) → ops_of tid ys ≡ ops_of tid xs
+ops_of-still tid xs ys g none = ap (ops_of tid) g.is ∙ ops_of-append tid xs g.rest ∙ ap (λ l. ops_of tid xs ++ l) (ops_of-none tid g.rest none) ∙ append-nil _
+
+-- ANSWERS
+abbrev pub state_at : List LogTx → Tid → List ℕ → Item → List (ℕ × Effect) → State
+state_at log tid snapshot item own = after_own tid (after_log item snapshot (initial (kind_of item.space)) log) own
+
+-- the answer is the log's at the snapshot, and then the operations' before it
+pub record IsTrueAnswer (p : Partition) (tid : Tid) (snapshot : List ℕ) (before : List Done) (a : Done) : Type 0 where
+  pub is_known : at_most snapshot (known me p) ≡ true
+  pub is : a.answer ≡ answered a.op (state_at p.log tid snapshot a.item (own_effects a.item (writes_of 1 before)))
+
+abbrev pub AllTrue : Partition → Tid → List ℕ → List Done → List Done → Type 0
+AllTrue p tid snapshot before [] = Unit {0}
+AllTrue p tid snapshot before (a ∷ rest) = IsTrueAnswer p tid snapshot before a × AllTrue p tid snapshot (before ++ a ∷ []) rest
+
+pub AllTrue-push : (p : Partition) (tid : Tid) (sn : List ℕ) (before as' : List Done) (a : Done) → AllTrue p tid sn before as' → IsTrueAnswer p tid sn (before ++ as') a → AllTrue p tid sn before (as' ++ a ∷ [])
+AllTrue-push p tid sn before [] a h t = (subst (λ l. IsTrueAnswer p tid sn l a) (append-nil before) t, tt)
+AllTrue-push p tid sn before (x ∷ as') a h t = (h.0, AllTrue-push p tid sn (before ++ x ∷ []) as' a h.1 (subst (λ l. IsTrueAnswer p tid sn l a) (sym (append_assoc before (x ∷ []) as')) t))
+
+-- THE PARTITION'S FACTS
+
+-- this answers a question that was sent
+pub record AnswersGet (p : Partition) (ms : List Message) (tid : Tid) (place at : ℕ) (f : Form) : Type 0 where
+  pub snapshot : List ℕ
+  pub item : Item
+  pub op : Op
+  pub own : List (ℕ × Effect)
+  pub asked : In (message.Get tid place at snapshot item op own) ms
+  pub is_known : at_most snapshot (known me p) ≡ true
+  pub is : f ≡ form.Answered (answered op (state_at p.log tid snapshot item own)) (effect_for op)
+
+pub record StillPrepared (qs : List PreparedTx) (tid : Tid) (ts : ℕ) : Type 0 where
+  pub entry_of : PreparedTx
+  pub here : In entry_of qs
+  pub tid_is : entry_of.tid ≡ tid
+  pub ts_is : entry_of.ts ≡ ts
+
+pub record IsDecided (cs : List Committed) (tid : Tid) : Type 0 where
+  pub decision : Committed
+  pub here : In decision cs
+  pub tid_is : decision.begun.tid ≡ tid
+
+pub record DecidedAt (cs : List Committed) (tid : Tid) (vector : List ℕ) : Type 0 where
+  pub decision : Committed
+  pub here : In decision cs
+  pub tid_is : decision.begun.tid ≡ tid
+  pub vector_is : decision.vector ≡ vector
+  pub has : HasWrites (writes_of 1 decision.ops)
+
+pub record Promised (p : Partition) (cs : List Committed) (tid : Tid) (ts : ℕ) : Type 0 where
+  pub done : In tid p.done
+  pub until : StillPrepared p.prepared tid ts ⊎ IsDecided cs tid
+
+pub record IsBegun (bs : List Begun) (tid : Tid) (snapshot : List ℕ) : Type 0 where
+  pub by : Begun
+  pub here : In by bs
+  pub tid_is : by.tid ≡ tid
+  pub snapshot_is : by.snapshot ≡ snapshot
+
+-- messages tell the truth
+abbrev pub IsTrue : Partition → Ledger → Message → Type 0
+IsTrue p l (message.Get tid place at snapshot item op own) = IsBegun l.history.begun tid snapshot
+IsTrue p l (message.Version v) = AnswersGet p l.messages v.tid v.place v.at v.form
+IsTrue p l (message.Prepare tid snapshot writes) = IsBegun l.history.begun tid snapshot
+IsTrue p l (message.Prepared tid ts) = Promised p l.history.committed tid ts
+IsTrue p l (message.Commit tid vector) = DecidedAt l.history.committed tid vector
+
+pub record PreparedFacts (done_here : List Tid) (ms : List Message) (q : PreparedTx) : Type 0 where
+  pub done : In q.tid done_here
+  pub asked : In (message.Prepare q.tid q.snapshot q.writes) ms
+  pub told : In (message.Prepared q.tid q.ts) ms
+  pub above : entry q.snapshot 1 < q.ts
+
+pub record LogFacts (cs : List Committed) (e : LogTx) : Type 0 where
+  pub decision : Committed
+  pub here : In decision cs
+  pub tid_is : decision.begun.tid ≡ e.tid
+  pub vector_is : decision.vector ≡ e.vector
+  pub writes_is : writes_of 1 decision.ops ≡ e.writes
+
+pub record InLog (log : List LogTx) (c : Committed) : Type 0 where
+  pub entry_of : LogTx
+  pub here : In entry_of log
+  pub tid_is : entry_of.tid ≡ c.begun.tid
+  pub vector_is : entry_of.vector ≡ c.vector
+  pub writes_is : entry_of.writes ≡ writes_of 1 c.ops
+
+-- the numbers of a session's committed transactions are 1 and so on
+pub record Numbered (cs : List Committed) (c : Committed) : Type 0 where
+  pub from_one : 1 ≤ c.number
+  pub within : c.number ≤ committed_in c.begun.session cs
+
+pub record DecidedFacts (p : Partition) (l : Ledger) (c : Committed) : Type 0 where
+  pub begun : In c.begun l.history.begun
+  pub ops : c.ops ≡ ops_of c.begun.tid l.history.performed
+  pub grows : at_most c.begun.snapshot c.vector ≡ true
+  pub same : (HasWrites (writes_of 1 c.ops) → ⊥) → c.vector ≡ c.begun.snapshot
+  pub above : HasWrites (writes_of 1 c.ops) → entry c.begun.snapshot 1 < entry c.vector 1
+  pub asked : HasWrites (writes_of 1 c.ops) → In (message.Prepare c.begun.tid c.begun.snapshot (writes_of 1 c.ops)) l.messages
+  pub kept : HasWrites (writes_of 1 c.ops) → StillPrepared p.prepared c.begun.tid (entry c.vector 1) ⊎ InLog p.log c
+  pub small : entry c.vector 1 ≤ 2 ^ 62
+  pub numbered : Numbered l.history.committed c
+
+pub record PartitionFacts (p : Partition) (l : Ledger) : Type 0 where
+  pub ok : PartitionOk p
+  pub messages : (m : Message) → In m l.messages → IsTrue p l m
+  pub parked : (g : Get) → In g p.parked → In (message.Get g.tid g.place g.at g.snapshot g.item g.op g.own) l.messages
+  pub prepared : (q : PreparedTx) → In q p.prepared → PreparedFacts p.done l.messages q
+  pub log : (e : LogTx) → In e p.log → LogFacts l.history.committed e
+  pub decided : (c : Committed) → In c l.history.committed → DecidedFacts p l c
+  pub answers : (b : Begun) → In b l.history.begun → AllTrue p b.tid b.snapshot [] (ops_of b.tid l.history.performed)
+
+-- WHAT SESSIONS SHARE
+
+-- two messages that are to be one
+abbrev pub SameKey : Message → Message → Type 0
+SameKey (message.Get t n a s i o w) (message.Get t' n' a' s' i' o' w') = (t ≡ t') × (n ≡ n')
+SameKey (message.Prepare t s w) (message.Prepare t' s' w') = t ≡ t'
+SameKey (message.Prepared t n) (message.Prepared t' n') = t ≡ t'
+SameKey _ _ = ⊥
+
+pub SameKey-sym : (m m' : Message) → SameKey m m' → SameKey m' m
+SameKey-sym (message.Get t n a s i o w) (message.Get t' n' a' s' i' o' w') k = (sym k.0, sym k.1)
+SameKey-sym (message.Prepare t s w) (message.Prepare t' s' w') k = sym k
+SameKey-sym (message.Prepared t n) (message.Prepared t' n') k = sym k
+SameKey-sym _ _ k = absurd k
+
+-- one more message, of a key that was not there
+pub once_push : (ms : List Message) (y : Message) → ((m m' : Message) → In m ms → In m' ms → SameKey m m' → m ≡ m') → ((m : Message) → In m ms → SameKey m y → ⊥) → (m m' : Message) → In m (ms ++ y ∷ []) → In m' (ms ++ y ∷ []) → SameKey m m' → m ≡ m'
+once_push ms y old new m m' i j k =
+    ⊎_elim
+    (λ (a : In m ms). ⊎_elim (λ (b : In m' ms). old m m' a b k) (λ (e : y ≡ m'). absurd (new m a (subst (SameKey m) (sym e) k))) (in_split m' ms y j))
+    (λ (d : y ≡ m). ⊎_elim (λ (b : In m' ms). absurd (new m' b (SameKey-sym y m' (subst (λ x. SameKey x m') (sym d) k)))) (λ (e : y ≡ m'). sym d ∙ e) (in_split m' ms y j))
+    (in_split m ms y i)
+
+-- c stands earlier than d
+abbrev pub StandsEarlier : Committed → Committed → List Committed → Type 0
+StandsEarlier c d [] = ⊥
+StandsEarlier c d (x ∷ xs) = ((x ≡ c) × In d xs) ⊎ StandsEarlier c d xs
+
+pub earlier_front : (c d : Committed) (xs ys : List Committed) → StandsEarlier c d xs → StandsEarlier c d (xs ++ ys)
+earlier_front c d [] ys h = absurd h
+earlier_front c d (x ∷ xs) ys (inl e) = inl (e.0, on xs e.1)
+  where
+    on : (xs : List Committed) → In d xs → In d (xs ++ ys)
+    on [] h = absurd h
+    on (x ∷ xs) (inl e) = inl e
+    on (x ∷ xs) (inr h) = inr (on xs h)
+earlier_front c d (x ∷ xs) ys (inr h) = inr (earlier_front c d xs ys h)
+
+pub earlier_push : (c d : Committed) (xs : List Committed) → In c xs → StandsEarlier c d (xs ++ d ∷ [])
+earlier_push c d [] h = absurd h
+earlier_push c d (x ∷ xs) (inl e) = inl (e, on xs)
+  where
+    on : (xs : List Committed) → In d (xs ++ d ∷ [])
+    on [] = inl refl
+    on (x ∷ xs) = inr (on xs)
+earlier_push c d (x ∷ xs) (inr h) = inr (earlier_push c d xs h)
+
+pub record BegunForm (last : ℕ) (b : Begun) : Type 0 where
+  pub site : b.tid.site ≡ 1
+  pub coord : b.tid.coord ≡ 1
+  pub seq : b.tid.seq ≤ last
+  pub session : b.session ≡ name b.session.number
+  pub small : entry b.snapshot 1 ≤ 2 ^ 62
+
+-- an operation that was told is of a transaction that was begun
+pub record OfBegun (bs : List Begun) (tid : Tid) : Type 0 where
+  pub by : Begun
+  pub here : In by bs
+  pub tid_is : by.tid ≡ tid
+
+pub record HistoryFacts (last : ℕ) (h : History) : Type 0 where
+  pub begun_once : (b b' : Begun) → In b h.begun → In b' h.begun → b.tid ≡ b'.tid → b ≡ b'
+  pub begun_form : (b : Begun) → In b h.begun → BegunForm last b
+  pub performed : (q : Performed) → In q h.performed → OfBegun h.begun q.tid
+  pub order : (c : Committed) (b : Begun) → In c h.committed → In b h.begun → c.begun.session ≡ b.session → c.begun.tid.seq < b.tid.seq → at_most c.vector b.snapshot ≡ true
+  pub decided_once : (c d : Committed) → In c h.committed → In d h.committed → c.begun.tid ≡ d.begun.tid → c ≡ d
+  pub numbers : (c d : Committed) → In c h.committed → In d h.committed → c.begun.session ≡ d.begun.session → c.begun.tid.seq < d.begun.tid.seq → c.number < d.number
+  pub stands : (c d : Committed) → In c h.committed → In d h.committed → c.begun.session ≡ d.begun.session → c.begun.tid.seq < d.begun.tid.seq → StandsEarlier c d h.committed
+
+pub record SharedFacts (l : Ledger) : Type 0 where
+  pub told : HistoryFacts l.seq l.history
+  pub once : (m m' : Message) → In m l.messages → In m' l.messages → SameKey m m' → m ≡ m'
+
+-- A SESSION
+
+abbrev pub Waits : Ledger → Transaction → Waiting → Type 0
+Waits l t waits.Nothing = Unit {0}
+Waits l t (waits.Version at place item op) = (place ≡ length t.ops + 1) × In (message.Get t.tid place at t.snapshot item op (own_effects item t.writes)) l.messages
+Waits l t (waits.Prepared at missing told) = HasWrites t.writes × (missing ≡ 1 ∷ []) × (told ≡ []) × In (message.Prepare t.tid t.snapshot t.writes) l.messages
+
+abbrev pub WaitsForPlace : Waiting → ℕ → Type 0
+WaitsForPlace waits.Nothing n = ⊥
+WaitsForPlace (waits.Version at place item op) n = place ≡ n
+WaitsForPlace (waits.Prepared at missing told) n = ⊥
+
+abbrev pub WaitsForPrepared : Waiting → Type 0
+WaitsForPrepared waits.Nothing = ⊥
+WaitsForPrepared (waits.Version at place item op) = ⊥
+WaitsForPrepared (waits.Prepared at missing told) = Unit {0}
+
+abbrev pub begun_as : ℕ → Transaction → Begun
+begun_as n t = record { tid = t.tid; session = name n; snapshot = t.snapshot }
+
+pub record RunningFacts (l : Ledger) (n : ℕ) (w : Waiting) (t : Transaction) : Type 0 where
+  pub begun : In (begun_as n t) l.history.begun
+  pub ops : t.ops ≡ ops_of t.tid l.history.performed
+  pub writes : t.writes ≡ writes_of 1 t.ops
+  pub after : (c : Committed) → In c l.history.committed → c.begun.session ≡ name n → c.begun.tid.seq < t.tid.seq
+  pub latest : (b : Begun) → In b l.history.begun → b.session ≡ name n → b.tid.seq ≤ t.tid.seq
+  pub gets : (place at : ℕ) (sn : List ℕ) (i : Item) (o : Op) (own : List (ℕ × Effect)) → In (message.Get t.tid place at sn i o own) l.messages → (place ≤ length t.ops) ⊎ WaitsForPlace w place
+  pub prepares : (sn : List ℕ) (ws : List Write) → In (message.Prepare t.tid sn ws) l.messages → WaitsForPrepared w
+  pub waiting : Waits l t w
+
+pub record SessionFacts (l : Ledger) (n : ℕ) (past : List ℕ) (running : Option Transaction) (w : Waiting) : Type 0 where
+  pub covered : (c : Committed) → In c l.history.committed → c.begun.session ≡ name n → at_most c.vector past ≡ true
+  pub small : entry past 1 ≤ 2 ^ 62
+  pub runs : (t : Transaction) → running ≡ Some t → RunningFacts l n w t
+
+-- GROWTH
+
+-- a transaction of this session
+pub record OfSession (bs : List Begun) (n : ℕ) (tid : Tid) : Type 0 where
+  pub by : Begun
+  pub here : In by bs
+  pub tid_is : by.tid ≡ tid
+  pub session_is : by.session ≡ name n
+
+-- what a session may send
+abbrev pub FromSession : Ledger → ℕ → Message → Type 0
+FromSession l n (message.Get tid place at snapshot item op own) = OfSession l.history.begun n tid
+FromSession l n (message.Version v) = ⊥
+FromSession l n (message.Prepare tid snapshot writes) = OfSession l.history.begun n tid
+FromSession l n (message.Prepared tid ts) = ⊥
+FromSession l n (message.Commit tid vector) = Unit {0}
+
+-- what session n may do to what is shared
+pub record Grows (n : ℕ) (l l' : Ledger) : Type 0 where
+  pub messages : GoesOn l.messages l'.messages
+  pub sent : (m : Message) → In m messages.rest → FromSession l' n m
+  pub begun : GoesOn l.history.begun l'.history.begun
+  pub begins : (b : Begun) → In b begun.rest → b.session ≡ name n
+  pub performed : GoesOn l.history.performed l'.history.performed
+  pub performs : (q : Performed) → In q performed.rest → OfSession l'.history.begun n q.tid
+  pub committed : GoesOn l.history.committed l'.history.committed
+  pub decides : (c : Committed) → In c committed.rest → c.begun.session ≡ name n
+
+of_session-later : (bs bs' : List Begun) (n : ℕ) (tid : Tid) → GoesOn bs bs' → OfSession bs n tid → OfSession bs' n tid
+of_session-later bs bs' n tid g h = record { by = h.by; here = in_later _ g h.here; tid_is = h.tid_is; session_is = h.session_is }
+
+from_session-later : (l l' : Ledger) (n : ℕ) (m : Message) → GoesOn l.history.begun l'.history.begun → FromSession l n m → FromSession l' n m
+from_session-later l l' n (message.Get tid place at snapshot item op own) g h = of_session-later l.history.begun l'.history.begun n tid g h
+from_session-later l l' n (message.Version v) g h = h
+from_session-later l l' n (message.Prepare tid snapshot writes) g h = of_session-later l.history.begun l'.history.begun n tid g h
+from_session-later l l' n (message.Prepared tid ts) g h = h
+from_session-later l l' n (message.Commit tid vector) g h = tt
+
+pub grows_further : {n : ℕ} {a b c : Ledger} → Grows n a b → Grows n b c → Grows n a c
+grows_further {n} {a} {b} {c} g h = record {
+  messages = goes_further g.messages h.messages;
+  sent = in_append _ g.messages.rest h.messages.rest (λ m i. from_session-later b c n m h.begun (g.sent m i)) h.sent;
+  begun = goes_further g.begun h.begun;
+  begins = in_append _ g.begun.rest h.begun.rest g.begins h.begins;
+  performed = goes_further g.performed h.performed;
+  performs = in_append _ g.performed.rest h.performed.rest (λ q i. of_session-later b.history.begun c.history.begun n q.tid h.begun (g.performs q i)) h.performs;
+  committed = goes_further g.committed h.committed;
+  decides = in_append _ g.committed.rest h.committed.rest g.decides h.decides;
+}
+
+pub grows_nowhere : (n : ℕ) (l : Ledger) → Grows n l l
+grows_nowhere n l = record {
+  messages = goes_nowhere _;
+  sent = λ m i. absurd i;
+  begun = goes_nowhere _;
+  begins = λ b i. absurd i;
+  performed = goes_nowhere _;
+  performs = λ q i. absurd i;
+  committed = goes_nowhere _;
+  decides = λ c i. absurd i;
+}
+
+pub waits-later : (l l' : Ledger) (t : Transaction) (w : Waiting) → GoesOn l.messages l'.messages → Waits l t w → Waits l' t w
+waits-later l l' t waits.Nothing g h = tt
+waits-later l l' t (waits.Version at place item op) g h = (h.0, in_later _ g h.1)
+waits-later l l' t (waits.Prepared at missing told) g h = (h.0, h.1, h.2, in_later _ g h.3)
+
+-- THE FRAME: what another session does leaves a session's facts
+
+-- what is of one session isn't of another
+pub apart_of : (last : ℕ) (h : History) (n m : ℕ) (tid : Tid) (b : Begun) → HistoryFacts last h → OfSession h.begun n tid → In b h.begun → b.tid ≡ tid → b.session ≡ name m → n ≡ m
+apart_of last h n m tid b all o i e f =
+    let same = all.begun_once o.by b o.here i (o.tid_is ∙ sym e) in
+    ap (λ (s : SessionName). s.number) (sym o.session_is ∙ ap (λ (x : Begun). x.session) same ∙ f)
+
+name-one : (n m : ℕ) (s : SessionName) → s ≡ name n → s ≡ name m → n ≡ m
+name-one n m s e f = ap (λ (x : SessionName). x.number) (sym e ∙ f)
+
+pub running_frame : (n m : ℕ) (l l' : Ledger) (w : Waiting) (t : Transaction) → SharedFacts l' → Grows n l l' → (n ≡ m → ⊥) → RunningFacts l m w t → RunningFacts l' m w t
+running_frame n m l l' w t all g apart h =
+    let mine = in_later _ g.begun h.begun in
+    record {
+      begun = mine;
+      ops = h.ops ∙ sym (ops_of-still t.tid l.history.performed l'.history.performed g.performed (λ q i e. apart (apart_of l'.seq l'.history n m q.tid (begun_as m t) all.told (g.performs q i) mine (sym e) refl)));
+      writes = h.writes;
+      after = λ c i e. ⊎_elim (λ j. h.after c j e) (λ j. absurd (apart (name-one n m _ (g.decides c j) e))) (in_grown c g.committed i);
+      latest = λ b i e. ⊎_elim (λ j. h.latest b j e) (λ j. absurd (apart (name-one n m _ (g.begins b j) e))) (in_grown b g.begun i);
+      gets = λ place at sn i o own j. ⊎_elim (λ k. h.gets place at sn i o own k) (λ k. absurd (apart (apart_of l'.seq l'.history n m t.tid (begun_as m t) all.told (g.sent _ k) mine refl refl))) (in_grown _ g.messages j);
+      prepares = λ sn ws j. ⊎_elim (λ k. h.prepares sn ws k) (λ k. absurd (apart (apart_of l'.seq l'.history n m t.tid (begun_as m t) all.told (g.sent _ k) mine refl refl))) (in_grown _ g.messages j);
+      waiting = waits-later l l' t w g.messages h.waiting;
+    }
+
+pub session_frame : (n m : ℕ) (l l' : Ledger) (past : List ℕ) (running : Option Transaction) (w : Waiting) → SharedFacts l' → Grows n l l' → (n ≡ m → ⊥) → SessionFacts l m past running w → SessionFacts l' m past running w
+session_frame n m l l' past running w all g apart h = record {
+  covered = λ c i e. ⊎_elim (λ j. h.covered c j e) (λ j. absurd (apart (name-one n m _ (g.decides c j) e))) (in_grown c g.committed i);
+  small = h.small;
+  runs = λ t e. running_frame n m l l' w t all g apart (h.runs t e);
+}

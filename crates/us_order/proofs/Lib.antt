@@ -1,0 +1,15 @@
+pub mod Ledgers
+pub mod Partition
+pub mod Facts
+pub mod Sessions
+pub mod Runs
+pub mod Each
+pub mod Moves
+pub mod World
+pub mod Pasts
+pub mod Order
+pub mod Entries
+pub mod Closed
+pub mod Direct
+pub mod Visible
+pub mod Por

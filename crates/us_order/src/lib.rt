@@ -1,0 +1,23 @@
+//! Laws over every run of the written machine.
+#![tactic(auto)]
+
+ghost use Rattle.us_order.specs.Laws.{EveryRunIsPor, ExecutionsAreDirect, PastsAreDirect};
+
+/// Whatever clients send and whichever packets come, in whatever order and however often, the execution of the run is
+/// consistent: its pasts are closed and stand earlier, each answer is its operation's value over its past and its own
+/// transaction's earlier operations, and strong transactions that conflict are ordered, whatever conflicts are declared.
+pub fn every_run_is_por()
+    ensures { EveryRunIsPor }
+{}
+
+/// The count of a session in a transaction's past, which the execution defines by the closure of steps, is the greatest
+/// number of a transaction of the session that leads to it in one step.
+pub fn pasts_are_direct()
+    ensures { PastsAreDirect }
+{}
+
+/// The execution of a run, whose pasts are defined by the closure of steps, is the one whose pasts count what leads to a
+/// transaction in one step, entry for entry and loose transaction for loose transaction.
+pub fn executions_are_direct()
+    ensures { ExecutionsAreDirect }
+{}

@@ -1,0 +1,15 @@
+//! The text of a report: what a run came to, line by line.
+#![tactic(auto)]
+
+mod lines;
+mod report;
+mod rows;
+mod words;
+mod writing;
+
+pub use report::{Refusal, Report, ReportFault, Waiting};
+pub use rows::worked_reports;
+pub use writing::write_report;
+
+#[cfg(test)]
+mod tests;

@@ -1,0 +1,69 @@
+ghost use Rattle.std.specs.Prelude.{◌≡◌};
+ghost use Rattle.us_report.specs.declared.report.ReportFault.TheVariants as reporting;
+
+use std::alloc::AllocError;
+use std::error::Error;
+use std::fmt;
+use us_edge::Failed;
+use us_exec::{Execution, SessionName};
+use us_kind::Items;
+
+/// A request that was refused: the session, the count of its frames up to the one refused, and the number
+/// of the refusal, from 1.
+#[derive(Clone, Copy, Debug, PartialEq, Eq)]
+pub struct Refusal {
+    pub session: SessionName,
+    pub at: u64,
+    pub number: u8,
+}
+
+/// An open session with unanswered requests, and the count of its frames up to the first of them.
+#[derive(Clone, Copy, Debug, PartialEq, Eq)]
+pub struct Waiting {
+    pub session: SessionName,
+    pub at: u64,
+}
+
+/// What a run came to: its execution, the refused requests in order, and the sessions that wait, ascending.
+#[derive(Drop)]
+pub struct Report {
+    pub execution: Execution,
+    pub refused: Items<Refusal>,
+    pub waiting: Items<Waiting>,
+}
+
+/// Why a report was not written whole.
+#[derive(Clone, Copy, Debug, PartialEq, Eq, Hash)]
+pub enum ReportFault {
+    /// A write failed, and the sink counted it.
+    Failed,
+    /// Want of memory.
+    Memory,
+}
+
+impl fmt::Display for ReportFault {
+    fn fmt<W: fmt::Write>(&self, f: &mut fmt::Formatter<W>) -> fmt::Result {
+        f.write_str(match self {
+            ReportFault::Failed => "the report was not written",
+            ReportFault::Memory => "out of memory",
+        })
+    }
+}
+
+impl Error for ReportFault {}
+
+impl From<AllocError> for ReportFault {
+    ghost from_gives = { λ _ fault. fault ≡ reporting.Memory };
+
+    fn from(_error: AllocError) -> ReportFault {
+        ReportFault::Memory
+    }
+}
+
+impl From<Failed> for ReportFault {
+    ghost from_gives = { λ _ fault. fault ≡ reporting.Failed };
+
+    fn from(_failed: Failed) -> ReportFault {
+        ReportFault::Failed
+    }
+}

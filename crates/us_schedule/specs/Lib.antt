@@ -1,0 +1,5 @@
+pub mod Fault
+pub mod Lines
+pub mod Text
+pub mod Parts
+pub mod Rows

@@ -1,0 +1,9 @@
+pub mod Defaults
+pub mod Elements
+pub mod Flag
+pub mod FlagLaws
+pub mod Keys
+pub mod Marks
+pub mod MarksLaws
+pub mod Set
+pub mod SetLaws

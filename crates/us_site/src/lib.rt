@@ -1,0 +1,15 @@
+//! One site: one step of it is the machine's rule.
+#![tactic(auto)]
+
+mod answer;
+mod coordinator;
+mod partition;
+mod reading;
+mod running;
+mod session;
+mod shard;
+mod site;
+mod stream;
+
+pub use site::Site;
+pub use us_model::{ClientOut, Event, Note, Outputs};
