@@ -96,7 +96,12 @@ impl History {
         let sessions = sessions_of(alloc, self.committed())?;
         let order = arbitrated(alloc, self.committed())?;
         Ok(Execution {
-            entries: entries_of(alloc, sessions.as_slice(), self.committed(), order.as_slice())?,
+            entries: entries_of(
+                alloc,
+                sessions.as_slice(),
+                self.committed(),
+                order.as_slice(),
+            )?,
             loose: self.loose(alloc, sessions.as_slice())?,
             links: Items::new(alloc),
         })

@@ -187,7 +187,11 @@ impl History {
         if let Some(begun) = beginning_of(tid, self.begun.as_slice()) {
             let committed = self.committed.as_slice();
             let number = number_in(&begun.session, committed)?;
-            let ops = operations_of(*self.performed.allocator(), &begun.tid, self.performed.as_slice())?;
+            let ops = operations_of(
+                *self.performed.allocator(),
+                &begun.tid,
+                self.performed.as_slice(),
+            )?;
             self.committed.push(Commit {
                 begun,
                 number,
@@ -232,7 +236,11 @@ fn number_in(session: &SessionName, committed: &[Commit]) -> Result<u64, Memory>
 }
 
 /// Copies of a transaction's operations, in order.
-pub fn operations_of(alloc: Global, tid: &Tid, performed: &[Performance]) -> Result<Items<Done>, Memory>
+pub fn operations_of(
+    alloc: Global,
+    tid: &Tid,
+    performed: &[Performance],
+) -> Result<Items<Done>, Memory>
     ensures { IfOk result (λ ops. ops ≡ ops_of tid.now performed.now) }
 {
     let mut ops = Items::new(alloc);

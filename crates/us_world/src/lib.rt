@@ -5,5 +5,7 @@ mod execution;
 mod history;
 mod order;
 mod past;
+mod world;
 
 pub use history::History;
+pub use world::{Sent, World};
