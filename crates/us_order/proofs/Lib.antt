@@ -10,5 +10,6 @@ pub mod Pasts
 pub mod Order
 pub mod Entries
 pub mod Closed
+pub mod Direct
 pub mod Visible
 pub mod Por

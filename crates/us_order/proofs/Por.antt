@@ -18,7 +18,7 @@ use Rattle.us_model.specs.State.{Partition}
 use Rattle.us_model.specs.Partitions.{known, kind_of, after_log}
 use Rattle.us_model.specs.Worlds.{start, run}
 use Rattle.us_model.specs.Executions.{Begun, Committed, ops_of, past_of, arbitrated, entry_of, entries_of, execution_by}
-use Rattle.us_order.specs.Laws.{EveryRunIsPor, PastsAreDirect}
+use Rattle.us_order.specs.Laws.{EveryRunIsPor, PastsAreDirect, ExecutionsAreDirect}
 use Rattle.us_order.proofs.Ledgers.{me, Ledger}
 use Rattle.us_order.proofs.Partition.{horizon, own_known-below, own_known-clock, PartitionOk}
 use Rattle.us_order.proofs.Facts.{writes_of, AllTrue, StillPrepared, InLog, PartitionFacts, SharedFacts}
@@ -27,6 +27,7 @@ use Rattle.us_order.proofs.Pasts.{BeforeBy, leads_below, not_own, has-stamped, b
 use Rattle.us_order.proofs.Order.{IsGreatest, greatest_of, greatest_one, kept_in, OfWrites, OfLog, greatest_log}
 use Rattle.us_order.proofs.Entries.{in_arbitrated, arbitrated_holds, arbitrated-sorted}
 use Rattle.us_order.proofs.Closed.{from_entry, from_loose, session_below, closed, ordered}
+use Rattle.us_order.proofs.Direct.{execution-same}
 use Rattle.us_order.proofs.Visible.{answered-is, value_of_kept, OfKept, greatest_final, last_visible, last_with_own, writes_there, IsEarlier}
 
 -- the transactions that are before t
@@ -138,3 +139,9 @@ pasts_direct hs t s i =
     let w = run hs start in
     let h = run_facts hs start start_facts in
     past-counts h.shard.partition (ledger_of h.shard w.packets w.notes) h.facts.part h.facts.all s t i
+
+pub executions_direct : ExecutionsAreDirect
+executions_direct hs =
+    let w = run hs start in
+    let h = run_facts hs start start_facts in
+    execution-same h.shard.partition (ledger_of h.shard w.packets w.notes) h.facts.part h.facts.all

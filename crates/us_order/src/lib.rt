@@ -1,7 +1,7 @@
 //! Laws over every run of the written machine.
 #![tactic(auto)]
 
-ghost use Rattle.us_order.specs.Laws.{EveryRunIsPor, PastsAreDirect};
+ghost use Rattle.us_order.specs.Laws.{EveryRunIsPor, ExecutionsAreDirect, PastsAreDirect};
 
 /// Whatever clients send and whichever packets come, in whatever order and however often, the execution of the run is
 /// consistent: its pasts are closed and stand earlier, each answer is its operation's value over its past and its own
@@ -14,4 +14,10 @@ pub fn every_run_is_por()
 /// number of a transaction of the session that leads to it in one step.
 pub fn pasts_are_direct()
     ensures { PastsAreDirect }
+{}
+
+/// The execution of a run, whose pasts are defined by the closure of steps, is the one whose pasts count what leads to a
+/// transaction in one step, entry for entry and loose transaction for loose transaction.
+pub fn executions_are_direct()
+    ensures { ExecutionsAreDirect }
 {}

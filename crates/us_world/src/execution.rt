@@ -3,7 +3,8 @@ ghost use Rattle.std.specs.Prelude.{◌≡◌, IfOk, map};
 ghost use Rattle.std.specs.List.{list_any};
 ghost use Rattle.us_kind.specs.Words.{tid_eq};
 ghost use Rattle.us_model.specs.Executions.{end_of, is_committed, sessions_of};
-ghost use Rattle.us_world.specs.Direct.{direct_entry_of, direct_entries, direct_loose, direct_loose_one, direct_execution, reported};
+ghost use Rattle.us_order.specs.Pasts.{direct_entry_of, direct_entries, direct_loose, direct_loose_one, direct_execution};
+ghost use Rattle.us_world.specs.Direct.{reported};
 
 use crate::history::{Beginning, Commit, History, operations_of};
 use crate::order::{arbitrated, sessions_of};

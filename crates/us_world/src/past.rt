@@ -4,7 +4,7 @@ ghost use Rattle.std.specs.List.{list_any};
 ghost use Rattle.us_exec.specs.Past.{session_eq};
 ghost use Rattle.us_model.specs.Executions.{is_stamped, leads};
 ghost use Rattle.us_value.specs.Values.{is_update};
-ghost use Rattle.us_world.specs.Direct.{direct_count, direct_counts};
+ghost use Rattle.us_order.specs.Pasts.{direct_count, direct_counts};
 
 use crate::history::{Beginning, Commit, same_session};
 use std::alloc::Global;

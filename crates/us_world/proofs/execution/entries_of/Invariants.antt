@@ -1,5 +1,5 @@
 use Rattle.std.proofs.Common.{◌≡◌, ◌++◌, drop, map}
-use Rattle.us_world.specs.Direct.{direct_entries}
+use Rattle.us_order.specs.Pasts.{direct_entries}
 use Rattle.us_world.proofs.execution.entries_of.Given as goal
 
 -- the entries so far and of what is left are all

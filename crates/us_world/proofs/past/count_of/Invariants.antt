@@ -1,5 +1,5 @@
 use Rattle.std.proofs.Common.{◌≡◌, drop, max}
-use Rattle.us_world.specs.Direct.{direct_count}
+use Rattle.us_order.specs.Pasts.{direct_count}
 use Rattle.us_world.proofs.past.count_of.Given as goal
 
 -- the greatest so far, and of what is left, is the greatest of all

@@ -1,5 +1,5 @@
 use Rattle.std.proofs.Common.{◌≡◌, ◌++◌, drop}
-use Rattle.us_world.specs.Direct.{direct_counts}
+use Rattle.us_order.specs.Pasts.{direct_counts}
 use Rattle.us_world.proofs.past.past_of.Given as goal
 
 -- what was counted and what is left are all

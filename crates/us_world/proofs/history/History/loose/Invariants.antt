@@ -1,5 +1,5 @@
 use Rattle.std.proofs.Common.{◌≡◌, ◌++◌, drop}
-use Rattle.us_world.specs.Direct.{direct_loose}
+use Rattle.us_order.specs.Pasts.{direct_loose}
 use Rattle.us_world.proofs.history.History.loose.Given as goal
 
 -- those so far and of what is left are all
