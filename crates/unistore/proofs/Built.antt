@@ -36,4 +36,3 @@ AllBuilt-push (l ∷ ls) line h b = (h.0, AllBuilt-push ls line h.1 b)
 -- an allowed line that is performed joins those that are built
 pub joined : (lines : List Line) (line : Line) → AllBuilt lines → IsAllowed one_site line → is_performed line ≡ true → AllBuilt (lines ++ line ∷ [])
 joined lines line h a p = AllBuilt-push lines line h (allowed-built line a p)
-

@@ -10,6 +10,8 @@ mod session;
 mod shard;
 mod site;
 mod stream;
+mod waits;
 
 pub use site::Site;
 pub use us_model::{ClientOut, Event, Note, Outputs};
+pub use waits::Unanswered;

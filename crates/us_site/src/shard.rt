@@ -1,11 +1,13 @@
 //! A partition and the coordinator of the same number take events.
 ghost use Rattle.std.specs.Prelude.{◌≡◌, ◌<◌, ◌++◌, ◌∷◌, [], ◌==◌, IfOk, OnOk, Some, None};
 ghost use Rattle.us_model.specs.Sites.{new_shard, new_session, opened, all_sessions, take_message, is_configured, all_configured, message_fits, is_for, take_event, wake, no_outputs};
+ghost use Rattle.us_model.specs.Worlds.{waits_in};
 ghost use Rattle.us_site.specs.Steps.{acts};
 
 use crate::coordinator::{Turn, each};
 use crate::partition::Part;
 use crate::session::{after, new_stream};
+use crate::waits::{Unanswered, waits_in};
 use std::alloc::Global;
 use std::marker::Model;
 use us_base::Vector;
@@ -44,6 +46,13 @@ impl Shard {
             seq: 0,
             sessions: Vec::new(alloc),
         }
+    }
+
+    /// The sessions that wait, in order.
+    pub fn waits(&self, alloc: Global, me: &Actor) -> Result<Vec<Unanswered>, Memory>
+        ensures { IfOk result (λ waits. waits.items ≡ waits_in me.now.site me.now.actor self.now.coordinator.sessions) }
+    {
+        waits_in(alloc, me.site, me.actor, self.sessions.as_slice())
     }
 
     /// Each session's turn.

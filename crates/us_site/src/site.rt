@@ -1,9 +1,11 @@
 //! One site.
 ghost use Rattle.std.specs.Prelude.{◌≡◌, ◌<◌, ◌+◌, ◌∷◌, [], false, is_err, IfOk, OnOk};
 ghost use Rattle.us_model.specs.Sites.{actor_of, site_step};
+ghost use Rattle.us_model.specs.Worlds.{waits_of};
 
 use crate::session::after;
 use crate::shard::Shard;
+use crate::waits::Unanswered;
 use std::alloc::Global;
 use std::marker::Model;
 use us_kind::{Items, Memory};
@@ -58,6 +60,18 @@ impl Site {
         ensures { result ≡ self.now.stopped }
     {
         self.stopped
+    }
+
+    /// The open sessions with unanswered requests, in order, each with the first one's place.
+    pub fn waits(&self, alloc: Global) -> Result<Vec<Unanswered>, Memory>
+        ensures { IfOk result (λ waits. waits.items ≡ waits_of (self.now.site ∷ [])) }
+    {
+        let me = Actor {
+            site: self.number,
+            actor: 1,
+        };
+        let waits = self.shard.waits(alloc, &me)?;
+        Ok(waits)
     }
 
     /// Takes an event: the state after it, and what is given out, are the machine's.

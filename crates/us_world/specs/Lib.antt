@@ -1,1 +1,3 @@
 pub mod Direct
+pub mod Kept
+pub mod Lines

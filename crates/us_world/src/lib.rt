@@ -5,8 +5,10 @@ mod execution;
 mod history;
 mod order;
 mod past;
+mod world;
 
 pub use history::History;
+pub use world::{Sent, World, report_of_lines};
 
 #[cfg(test)]
 mod tests;
