@@ -1,6 +1,7 @@
 //! What the top call has outside.
 
 pub use us_edge::{
-    Clock, Failed, LinkInput, Links, ListClock, MemorySink, MemorySource, Plan, PollFault,
-    ReadAllFault, Sink, Source, StartFault, SureSink, SureSource, Text, read_all, write_all,
+    Clock, Dropped, Failed, LinkInput, Links, ListClock, MemorySink, MemorySource, Offer, Outcome,
+    Plan, PollFault, ReadAllFault, Sink, Source, StartFault, SureLinks, SureSink, SureSource, Text,
+    read_all, write_all,
 };

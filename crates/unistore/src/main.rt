@@ -12,8 +12,8 @@ mod status;
 mod surely;
 
 pub use call::unistore;
-use edge::ListClock;
-use real::{NoLinks, StdinSource, StdoutSink, words_of};
+use edge::{ListClock, SureLinks};
+use real::{StdinSource, StdoutSink, words_of};
 pub use schedule::{Schedule, read_schedule};
 pub use status::{LimitKind, Reason, Status};
 use std::process::ExitCode;
@@ -27,7 +27,7 @@ fn main(rt: HostRuntime) -> ExitCode {
             words.as_slice(),
             &mut StdinSource::new(rt.stdin()),
             &mut StdoutSink::new(rt.stdout()),
-            &mut NoLinks::new(),
+            &mut SureLinks::new(Vec::new(alloc)),
             &mut ListClock::new(Vec::new(alloc)),
         ),
         Err(us_kind::Memory) => Status::Memory,

@@ -6,7 +6,7 @@ use std::alloc::{AllocError, Global};
 use std::env;
 use std::io::{ErrorKind, Read, Stdin, Stdout, Write};
 use std::marker::Model;
-use us_edge::{Failed, LinkInput, Links, Plan, PollFault, Sink, Source, StartFault};
+use us_edge::{Failed, Sink, Source};
 use us_kind::Memory;
 
 /// Standard input, and how often it failed.
@@ -86,60 +86,6 @@ impl Sink for StdoutSink {
             }
         }
     }
-}
-
-/// The links of a program that links no sites: they never start.
-#[derive(Drop)]
-pub struct NoLinks {
-    pub plan: Option<Plan>,
-    pub faults: u64,
-}
-
-impl NoLinks {
-    pub fn new() -> NoLinks
-        ensures plan { result.plan ≡ None }
-        ensures faults { result.faults ≡ 0 }
-    {
-        NoLinks {
-            plan: None,
-            faults: 0,
-        }
-    }
-
-    fn fail(&mut self) -> Failed
-        ensures plan { self.new.plan ≡ self.old.plan }
-        ensures faults { self.new.faults ≡ counted self.old.faults }
-        ensures grows { self.old.faults ≤ self.new.faults }
-    {
-        self.faults = self.faults.saturating_add(1);
-        Failed
-    }
-}
-
-impl Links for NoLinks {
-    ghost planned = { λ a. a.plan };
-
-    ghost faults = { λ a. a.faults };
-
-    fn start(&mut self, _plan: &Plan) -> Result<(), StartFault> {
-        self.plan = None;
-        self.fail();
-        Err(StartFault::Failed)
-    }
-
-    fn poll(&mut self) -> Result<LinkInput, PollFault> {
-        Ok(LinkInput::Nothing)
-    }
-
-    fn send_client(&mut self, _conn: u64, _piece: &[u8]) -> Result<(), Failed> {
-        Err(self.fail())
-    }
-
-    fn send_peer(&mut self, _site: u8, _piece: &[u8]) -> Result<(), Failed> {
-        Err(self.fail())
-    }
-
-    fn drop_client(&mut self, _conn: u64) {}
 }
 
 /// The words behind the program's name: none where a word isn't UTF-8, which is no form.

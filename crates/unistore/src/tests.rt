@@ -1,10 +1,10 @@
 ghost use Rattle.std.specs.Prelude.{◌≤◌};
 
 use crate::edge::{ListClock, MemorySink, MemorySource};
-use crate::real::NoLinks;
 use crate::{LimitKind, Reason, Status, replay_surely, unistore};
 use std::alloc::Global;
 use std::test::Fail;
+use us_edge::SureLinks;
 
 /// The empty store's report.
 const NOTHING: &str = "committed 0 strong 0 aborted 0 loose 0 links 0 refused 0 waiting 0\n";
@@ -136,7 +136,7 @@ fn ended(
         per_write,
         Vec::from_slice(alloc, [failing_write].as_slice())?,
     );
-    let mut links = NoLinks::new();
+    let mut links = SureLinks::new(Vec::new(alloc));
     let mut clock = ListClock::new(Vec::new(alloc));
     let status = unistore(
         alloc,
@@ -293,7 +293,7 @@ fn without_failures(rt: HostRuntime) -> Result<(), Fail> {
             alloc,
             words.as_slice(),
             bytes,
-            &mut NoLinks::new(),
+            &mut SureLinks::new(Vec::new(alloc)),
             &mut clock,
         );
         assert_eq!(rt; status, want, "{input}");
