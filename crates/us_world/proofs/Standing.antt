@@ -136,6 +136,7 @@ find-at g del k (p ∷ ps) s e = on (is_delivered del k) (find-at g del (k + 1) 
     on false rec e = here (g (record { number = k; packet = p })) rec e
 
 at-within : (k : ℕ) (ps : List Packet) (s : Sent) → At k ps s → (k ≤ s.number) × (s.number < k + length ps)
+at-within k [] s i = elim i [ ]
 at-within k (p ∷ ps) s (inl e) =
     let n : k ≡ s.number = ap (λ (t : Sent). t.number) e in
     (omega arith, omega arith)
@@ -145,6 +146,7 @@ at-within k (p ∷ ps) s (inr i) =
     (omega arith, omega arith)
 
 at-get : (k : ℕ) (ps : List Packet) (s : Sent) → At k ps s → (n : ℕ) → s.number ≡ k + n → slice_get ps n ≡ Some s.packet
+at-get k [] s i n h = elim i [ ]
 at-get k (p ∷ ps) s (inl e) zero h = ap (λ (t : Sent). Some t.packet) e
 at-get k (p ∷ ps) s (inl e) (suc n) h =
     let m : k ≡ s.number = ap (λ (t : Sent). t.number) e in

@@ -8,4 +8,4 @@ mod past;
 mod world;
 
 pub use history::History;
-pub use world::{Sent, World};
+pub use world::{Sent, World, report_of_lines};
