@@ -23,7 +23,7 @@ find-none p (x ∷ xs) none = go (p x) refl (λ rest. find-none p xs rest)
     go true e rec =
         let t : nat_lt 0 (suc (length xs)) ≡ true = grind (arith, nat_tests) in
         let shown : position p (x ∷ xs) ≡ cond (nat_lt 0 (suc (length xs))) (Some 0) None = rw e refl in
-        let bad : Some 0 ≡ None = sym (rw t at shown) ∙ none in
+        let bad : ◌≡◌ {A = Option ℕ} (Some 0) None = sym (rw t at shown) ∙ none in
         cc
     go false e rec =
         let n = position_or_len p xs in
