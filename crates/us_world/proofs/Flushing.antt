@@ -1,14 +1,12 @@
 -- A flush, packet by packet.
-use Rattle.std.proofs.Common.{◌≡◌, ◌∙◌, ℕ, zero, suc, ◌+◌, ◌≤◌, ◌<◌, List, [], ◌∷◌, ◌++◌, length, Bool, true, false, cond, Option, Some, None, refl, sym, ap, subst, arith, inl, inr, get_or, nat_lt, append-nil}
+use Rattle.std.proofs.Common.{◌≡◌, ◌∙◌, ℕ, zero, suc, ◌+◌, ◌<◌, List, [], ◌∷◌, ◌++◌, length, Bool, true, false, cond, Option, Some, None, refl, sym, ap, subst, arith, inl, inr, get_or, nat_lt}
 use Rattle.std.specs.Prelude.{⊤, ◌&&◌, ◌==◌, find}
 use Rattle.std.specs.List.{position, position_or_len, slice_get, remove}
 use Rattle.std.proofs.lemmas.Bool.{cond-true, cond-false, cases_lt, and_parts, eqb-true}
 use Rattle.std.proofs.lemmas.Bool.Decides.{nat_tests}
 use Rattle.std.proofs.lemmas.List.Quantifiers.{position-Some}
-use Rattle.us_peer_wire.specs.declared.message.Packet.{Packet}
-use Rattle.us_model.specs.declared.event.Event.{Event}
 use Rattle.us_model.specs.declared.event.Event.TheVariants as event
-use Rattle.us_model.specs.Worlds.{World, Happening, Comes, nth, at_site, delivered, comes, happens, run, least_due, least_undelivered, Flushes}
+use Rattle.us_model.specs.Worlds.{World, Happening, Comes, nth, at_site, delivered, comes, happens, run, least_undelivered, Flushes}
 use Rattle.us_world.specs.declared.world.Sent.{Sent}
 use Rattle.us_world.specs.Kept.{Kept, undelivered, StandsFor, after_event, goes}
 use Rattle.us_world.proofs.Standing.{stands_event, number_of, least-first, find-true, first-sent, first-within, undelivered-gone, delivered-within, gone}
@@ -84,9 +82,10 @@ stands_delivered k w from s h e =
     } in
     let there : comes w s.number (nth w.packets s.number) ≡ at_site dw 1 (event.Take s.packet) =
     ap (comes w s.number) sent ∙ ap (λ n. at_site dw n (event.Take s.packet)) to
-    in
-    (least-first from 1 w.delivered 1 w.packets ∙ ap number_of found,
-      subst (λ v. StandsFor (after_event dk (event.Take s.packet)) v) (sym there) (stands_event dk dw (event.Take s.packet) mid))
+    in (
+      least-first from 1 w.delivered 1 w.packets ∙ ap number_of found,
+      subst (λ v. StandsFor (after_event dk (event.Take s.packet)) v) (sym there) (stands_event dk dw (event.Take s.packet) mid),
+    )
 
 -- A FLUSH FROM THE FRONT
 run-more : (hs : List Happening) (h : Happening) (w : World) → run (hs ++ h ∷ []) w ≡ happens (run hs w) h
@@ -130,10 +129,11 @@ delivered_more from old k new i s so place at is w h =
     let next = stands_delivered k (run hs w) from s was.2 found in
     let new-is : after_event (record k { due = gone g k.due }) (event.Take s.packet) ≡ new =
     ap (λ ds. after_event (record k { due = ds }) (event.Take s.packet)) (sym rest) ∙ sym is
-    in
-    (hs ++ Comes s.number ∷ [],
+    in (
+      hs ++ Comes s.number ∷ [],
       delivers-more from 1 w hs s.number was.1 next.0,
-      subst (λ v. StandsFor new v) (sym (run-more hs (Comes s.number) w)) (subst (λ m. StandsFor m (happens (run hs w) (Comes s.number))) new-is next.1))
+      subst (λ v. StandsFor new v) (sym (run-more hs (Comes s.number) w)) (subst (λ m. StandsFor m (happens (run hs w) (Comes s.number))) new-is next.1),
+    )
 
 pub delivered_all : (from : ℕ) (old new : Kept) → HasDelivered from old new → position (goes from 1) new.due ≡ None
     → (w : World) → StandsFor old w → (hs : List Happening) × Flushes from 1 w hs × StandsFor new (run hs w)

@@ -1,11 +1,10 @@
 -- The lines of a schedule in turn, and the report at their end.
-use Rattle.std.proofs.Common.{◌≡◌, ◌∙◌, ℕ, List, [], ◌∷◌, ◌++◌, drop, refl, sym, ap, subst, append_assoc, append-nil, map, Ok, Err}
+use Rattle.std.proofs.Common.{◌≡◌, ◌∙◌, ℕ, List, [], ◌∷◌, ◌++◌, refl, sym, ap, subst, append_assoc, append-nil, map, Ok, Err}
 use Rattle.std.specs.Prelude.{IfOk, Result}
 use Rattle.us_exec.specs.Consistency.{IsPor}
 use Rattle.us_schedule.specs.declared.line.Line.{Line}
 use Rattle.us_schedule.specs.declared.line.Line.TheVariants as line
 use Rattle.us_report.specs.declared.report.Report.{Report}
-use Rattle.us_model.specs.declared.event.Event.{Event}
 use Rattle.us_model.specs.declared.event.Event.TheVariants as event
 use Rattle.us_model.specs.Worlds.{World, Happening, Opens, Sends, Flushes, at_site, happens, run, start, waits_of}
 use Rattle.us_model.specs.Executions.{history_of, execution_of}
@@ -13,7 +12,7 @@ use Rattle.us_order.specs.Pasts.{direct_execution}
 use Rattle.us_order.specs.Laws.{ExecutionsAreDirect, EveryRunIsPor}
 use Rattle.us_world.specs.Direct.{reported}
 use Rattle.us_world.specs.Kept.{Kept, StandsFor, after_event}
-use Rattle.us_world.specs.Lines.{Performs, StandFor, IsBuilt, AllBuilt, waiting, report_of, report_of_kept, IsReportOf, IsPerformed, IsFlushed, IsConsistent}
+use Rattle.us_world.specs.Lines.{StandFor, IsBuilt, AllBuilt, waiting, report_of, report_of_kept, IsReportOf, IsPerformed, IsFlushed, IsConsistent}
 use Rattle.us_world.proofs.Standing.{stands_event}
 use Rattle.us_world.proofs.Flushing.{run-append}
 
@@ -67,12 +66,13 @@ performed_more all left rest l old new so is step =
     let w = run hs start in
     let next = step w so.1 in
     let first = next.0 in
-    let there : run (hs ++ first) start ≡ run first w = run-append hs first start in
-    (hs ++ first,
+    let there : run (hs ++ first) start ≡ run first w = run-append hs first start in (
+      hs ++ first,
       subst (λ v. StandsFor new v) (sym there) next.2,
       λ more s.
-      subst (λ gs. StandFor all start gs) (sym (append_assoc hs first more))
-      (so.2 (first ++ more) (subst (λ ls. StandFor ls w (first ++ more)) (sym is) (first, more, refl, next.1, subst (λ v. StandFor rest v more) there s))))
+          subst (λ gs. StandFor all start gs) (sym (append_assoc hs first more))
+          (so.2 (first ++ more) (subst (λ ls. StandFor ls w (first ++ more)) (sym is) (first, more, refl, next.1, subst (λ v. StandFor rest v more) there s))),
+    )
 
 -- THE REPORT
 pub report-same : (k : Kept) (w : World) → StandsFor k w → execution_of w.notes ≡ direct_execution (history_of w.notes) → report_of_kept k ≡ report_of w

@@ -1,7 +1,7 @@
 -- What is kept stands for the world, and goes along with it.
 use Rattle.std.proofs.Common.{◌≡◌, ◌∙◌, ◌⊎◌, ℕ, zero, suc, ◌+◌, ◌-◌, ◌≤◌, ◌<◌, List, [], ◌∷◌, ◌++◌, length, Bool, true, false, cond, Option, Some, None, refl, sym, ap, subst, arith, inl, inr, append_assoc, nat_lt}
-use Rattle.std.specs.Prelude.{◌&&◌, ◌||◌, ◌==◌, not, if◌then◌else◌}
-use Rattle.std.specs.List.{list_any, find, slice_get, slice_set}
+use Rattle.std.specs.Prelude.{◌&&◌, ◌||◌, ◌==◌, not}
+use Rattle.std.specs.List.{find, slice_get, slice_set}
 use Rattle.std.proofs.lemmas.Bool.{cond-true, cond-false}
 use Rattle.std.proofs.lemmas.Bool.Decides.{nat_tests}
 use Rattle.std.proofs.lemmas.List.{length-append}
@@ -10,7 +10,7 @@ use Rattle.us_peer_wire.specs.declared.message.Packet.{Packet}
 use Rattle.us_model.specs.declared.event.Event.{Event}
 use Rattle.us_model.specs.declared.event.Note.{Note}
 use Rattle.us_model.specs.Sites.{Stepped, site_step}
-use Rattle.us_model.specs.Worlds.{World, nth, stepped, at_one, at_site, is_delivered, is_due, least_due}
+use Rattle.us_model.specs.Worlds.{World, nth, stepped, at_one, at_site, is_delivered, least_due}
 use Rattle.us_model.specs.Executions.{History, noted, noted_all, no_history}
 use Rattle.us_world.specs.declared.world.Sent.{Sent}
 use Rattle.us_world.specs.Kept.{Kept, numbered, undelivered, StandsFor, after_step, after_event, goes}

@@ -1,4 +1,4 @@
-use Rattle.std.proofs.Common.{◌≡◌, ◌+◌, ◌∷◌, [], drop, length, subst, arith}
+use Rattle.std.proofs.Common.{◌≡◌, ◌+◌, ◌∷◌, [], drop, subst, arith}
 use Rattle.std.proofs.lemmas.List.{drop_all}
 use Rattle.us_world.proofs.Turns.{drop-turn}
 use Rattle.us_world.proofs.Lines.{HasPerformed, performed_more, built_rest, ok_report, ok_por}

@@ -1,4 +1,4 @@
-use Rattle.std.proofs.Common.{◌≡◌, ◌∙◌, ◌∷◌, [], ap, sym}
+use Rattle.std.proofs.Common.{◌∙◌, ◌∷◌, [], ap, sym}
 use Rattle.us_model.specs.Executions.{noted}
 use Rattle.us_world.proofs.Standing.{noted-append}
 use Rattle.us_world.proofs.world.tell_all.Goals as goal

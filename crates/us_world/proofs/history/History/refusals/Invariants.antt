@@ -1,4 +1,4 @@
-use Rattle.std.proofs.Common.{◌≡◌, drop, take, map}
+use Rattle.std.proofs.Common.{◌≡◌, take, map}
 use Rattle.us_world.specs.Direct.{reported}
 use Rattle.us_world.proofs.history.History.refusals.Given as goal
 

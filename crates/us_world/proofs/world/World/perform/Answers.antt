@@ -1,5 +1,5 @@
 use Rattle.std.proofs.lemmas.Result.{on_ok_weaker}
-use Rattle.us_world.proofs.Lines.{open-performs, bytes-perform, flush_performs}
+use Rattle.us_world.proofs.Lines.{open-performs, bytes-perform}
 use Rattle.us_world.proofs.world.World.perform.Goals as goal
 
 pub returns-in-Open-clause-performed : goal.returns-in-Open-clause-performed
