@@ -1,7 +1,7 @@
 -- What is kept stands for the world, and goes along with it.
 use Rattle.std.proofs.Common.{◌≡◌, ◌∙◌, ◌⊎◌, ℕ, zero, suc, ◌+◌, ◌-◌, ◌≤◌, ◌<◌, List, [], ◌∷◌, ◌++◌, length, Bool, true, false, cond, Option, Some, None, refl, sym, ap, subst, arith, inl, inr, append_assoc, nat_lt}
-use Rattle.std.specs.Prelude.{◌&&◌, ◌||◌, ◌==◌, not, if◌then◌else◌}
-use Rattle.std.specs.List.{list_any, find, slice_get, slice_set}
+use Rattle.std.specs.Prelude.{◌&&◌, ◌||◌, ◌==◌, not}
+use Rattle.std.specs.List.{find, slice_get, slice_set}
 use Rattle.std.proofs.lemmas.Bool.{cond-true, cond-false}
 use Rattle.std.proofs.lemmas.Bool.Decides.{nat_tests}
 use Rattle.std.proofs.lemmas.List.{length-append}
@@ -10,7 +10,7 @@ use Rattle.us_peer_wire.specs.declared.message.Packet.{Packet}
 use Rattle.us_model.specs.declared.event.Event.{Event}
 use Rattle.us_model.specs.declared.event.Note.{Note}
 use Rattle.us_model.specs.Sites.{Stepped, site_step}
-use Rattle.us_model.specs.Worlds.{World, nth, stepped, at_one, at_site, is_delivered, is_due, least_due}
+use Rattle.us_model.specs.Worlds.{World, nth, stepped, at_one, at_site, is_delivered, least_due}
 use Rattle.us_model.specs.Executions.{History, noted, noted_all, no_history}
 use Rattle.us_world.specs.declared.world.Sent.{Sent}
 use Rattle.us_world.specs.Kept.{Kept, numbered, undelivered, StandsFor, after_step, after_event, goes}
@@ -136,6 +136,7 @@ find-at g del k (p ∷ ps) s e = on (is_delivered del k) (find-at g del (k + 1) 
     on false rec e = here (g (record { number = k; packet = p })) rec e
 
 at-within : (k : ℕ) (ps : List Packet) (s : Sent) → At k ps s → (k ≤ s.number) × (s.number < k + length ps)
+at-within k [] s i = elim i [ ]
 at-within k (p ∷ ps) s (inl e) =
     let n : k ≡ s.number = ap (λ (t : Sent). t.number) e in
     (omega arith, omega arith)
@@ -145,6 +146,7 @@ at-within k (p ∷ ps) s (inr i) =
     (omega arith, omega arith)
 
 at-get : (k : ℕ) (ps : List Packet) (s : Sent) → At k ps s → (n : ℕ) → s.number ≡ k + n → slice_get ps n ≡ Some s.packet
+at-get k [] s i n h = elim i [ ]
 at-get k (p ∷ ps) s (inl e) zero h = ap (λ (t : Sent). Some t.packet) e
 at-get k (p ∷ ps) s (inl e) (suc n) h =
     let m : k ≡ s.number = ap (λ (t : Sent). t.number) e in

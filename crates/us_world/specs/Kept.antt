@@ -1,7 +1,9 @@
 -- What is kept of a world, and which worlds it stands for.
-use Rattle.std.specs.Prelude.{◌≡◌, ℕ, ◌+◌, ◌≤◌, List, [], ◌∷◌, ◌++◌, length, Bool, true, ◌&&◌, ◌==◌, if◌then◌else◌}
+use Rattle.std.specs.Prelude.{◌≡◌, ℕ, ◌+◌, ◌≤◌, List, [], ◌∷◌, ◌++◌, length, Bool, true, ◌&&◌, ◌==◌, if◌then◌else◌, Some, slice_get}
+use Rattle.std.specs.List.{remove}
 use Rattle.us_peer_wire.specs.declared.message.Packet.{Packet}
 use Rattle.us_model.specs.declared.event.Event.{Event}
+use Rattle.us_model.specs.declared.event.Event.TheVariants as event
 use Rattle.us_model.specs.State.{Site}
 use Rattle.us_model.specs.Sites.{Stepped, site_step}
 use Rattle.us_model.specs.Worlds.{World, is_delivered}
@@ -52,3 +54,8 @@ after_event k e = after_step k (site_step k.site e)
 -- a packet is from one site to another
 abbrev pub goes : ℕ → ℕ → Sent → Bool
 goes from to s = (s.packet.from.site == from) && (s.packet.to.site == to)
+
+-- what is kept goes from one to the other where the packet at this place comes
+abbrev pub HasCome : ℕ → Kept → Kept → Type 0
+HasCome place old new =
+    (sent : Sent) × (slice_get old.due place ≡ Some sent) × (new ≡ after_event (record old { due = remove old.due place }) (event.Take sent.packet))

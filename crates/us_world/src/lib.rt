@@ -9,6 +9,3 @@ mod world;
 
 pub use history::History;
 pub use world::{Sent, World, report_of_lines};
-
-#[cfg(test)]
-mod tests;
