@@ -4,6 +4,7 @@
 mod flag;
 mod marks;
 mod set;
+
 pub use flag::{EnableWinsFlag, FlagAnswer, FlagEffect, FlagOp};
 pub use marks::Marks;
 pub use set::{AddWinsSet, SetAnswer, SetEffect, SetOp, SetState};
