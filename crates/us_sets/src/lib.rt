@@ -4,8 +4,6 @@
 mod flag;
 mod marks;
 mod set;
-#[cfg(test)]
-mod tests;
 
 pub use flag::{EnableWinsFlag, FlagAnswer, FlagEffect, FlagOp};
 pub use marks::Marks;
