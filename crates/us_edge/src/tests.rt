@@ -1,5 +1,6 @@
 use super::*;
 use std::test::Fail;
+use us_kind::Items;
 
 #[test]
 fn reading_to_the_end(rt: HostRuntime) -> Result<(), Fail> {
@@ -47,5 +48,22 @@ fn a_clock(rt: HostRuntime) -> Result<(), Fail> {
         assert_eq!(rt; clock.now(), want);
     }
     assert_eq!(rt; ListClock::new(Vec::new(rt.alloc())).now(), 0);
+    Ok(())
+}
+
+#[test]
+fn links_that_never_fail(rt: HostRuntime) -> Result<(), Fail> {
+    let clients = Text::of(String::from_str(rt.alloc(), "here:1")?);
+    let mut peers = Items::new(rt.alloc());
+    peers.push(clients.copy()?)?;
+    let plan = Plan {
+        site: 1,
+        clients,
+        peers,
+    };
+    let mut links = SureLinks::new(vec![in rt.alloc(); LinkInput::Opened { conn: 7 }]?);
+    links.start(&plan)?;
+    assert!(rt; matches!(links.poll()?, LinkInput::Opened { conn: 7 }));
+    assert!(rt; matches!(links.poll()?, LinkInput::Nothing));
     Ok(())
 }
