@@ -1,6 +1,5 @@
 -- Reports that were worked by hand, and their texts.
-use Rattle.std.specs.Prelude.{ℕ, List, [], ◌∷◌, ◌++◌, Bool, true, false, codes}
-use Rattle.us_kind.specs.declared.identity.Tid.{Tid}
+use Rattle.std.specs.Prelude.{ℕ, List, [], ◌∷◌, ◌++◌, true, false, codes}
 use Rattle.us_value.specs.declared.item.Item.{Item}
 use Rattle.us_value.specs.declared.operation.Op.TheVariants as op
 use Rattle.us_value.specs.declared.operation.Answer.TheVariants as answer
@@ -9,11 +8,6 @@ use Rattle.us_exec.specs.declared.Done.{Done}
 use Rattle.us_exec.specs.declared.Count.{Count}
 use Rattle.us_exec.specs.declared.Entry.{Entry}
 use Rattle.us_exec.specs.declared.LooseEnd.TheVariants as end
-use Rattle.us_exec.specs.declared.Loose.{Loose}
-use Rattle.us_exec.specs.declared.Link.{Link}
-use Rattle.us_exec.specs.declared.Execution.{Execution}
-use Rattle.us_report.specs.declared.report.Refusal.{Refusal}
-use Rattle.us_report.specs.declared.report.Waiting.{Waiting}
 use Rattle.us_report.specs.declared.report.Report.{Report}
 
 -- nothing happened

@@ -1,5 +1,5 @@
 -- The text of a report. Every line ends with a line feed, numbers are decimal and hex is lower case.
-use Rattle.std.specs.Prelude.{ℕ, List, [], ◌∷◌, ◌++◌, length, Bool, true, false, nat_lt, if◌then◌else◌, codes, count_by, decimal}
+use Rattle.std.specs.Prelude.{ℕ, List, [], ◌++◌, length, Bool, true, false, nat_lt, if◌then◌else◌, codes, count_by, decimal}
 use Rattle.std.specs.List.{flat_map, list_any}
 use Rattle.hex.specs.Hex.{encode_lower}
 use Rattle.us_kind.specs.declared.identity.Tid.{Tid}

@@ -9,3 +9,6 @@ mod world;
 
 pub use history::History;
 pub use world::{Sent, World, report_of_lines};
+
+#[cfg(test)]
+mod tests;

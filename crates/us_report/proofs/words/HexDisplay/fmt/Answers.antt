@@ -1,4 +1,4 @@
-use Rattle.std.proofs.Common.{rules, refl, sym, ◌+◌, ◌<◌, List, [], ◌∷◌, ◌++◌, take, get_or, arith}
+use Rattle.std.proofs.Common.{rules, refl, sym, ◌+◌, ◌<◌, [], ◌∷◌, ◌++◌, take, get_or, arith}
 use Rattle.std.proofs.Output.{has_written_append, has_written_of_eq}
 use Rattle.hex.specs.Hex.{encode_lower}
 use Rattle.us_report.proofs.HexText.{encode_lower-nil, encode_lower-more, shown_byte}
