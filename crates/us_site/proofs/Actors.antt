@@ -1,5 +1,5 @@
 -- No rule of a session changes whose desk it is.
-use Rattle.std.proofs.Common.{◌≡◌, ℕ, ◌+◌, List, [], ◌∷◌, ◌++◌, length, Bool, true, false, ◌&&◌, refl, sym, ap, ◌∙◌}
+use Rattle.std.proofs.Common.{◌≡◌, ℕ, ◌+◌, List, [], ◌∷◌, ◌++◌, length, Bool, true, false, ◌&&◌, refl, ◌∙◌}
 use Rattle.std.specs.Prelude.{Option, Some, None, if◌then◌else◌, nat_lt, not, ◌==◌}
 use Rattle.std.specs.List.{list_any}
 use Rattle.us_kind.specs.Words.{tid_eq}
@@ -13,7 +13,6 @@ use Rattle.us_client_wire.specs.declared.frame.Request.TheVariants.{Begin, Perfo
 use Rattle.us_client_wire.specs.declared.frame.Reply.{Reply}
 use Rattle.us_client_wire.specs.declared.frame.Reply.TheVariants as reply
 use Rattle.us_client_wire.specs.Requests.{request_of}
-use Rattle.us_peer_wire.specs.declared.message.Actor.{Actor}
 use Rattle.us_peer_wire.specs.declared.message.Version.{Version}
 use Rattle.us_peer_wire.specs.declared.message.Form.{Form}
 use Rattle.us_peer_wire.specs.declared.message.Form.TheVariants as form
@@ -24,7 +23,7 @@ use Rattle.us_model.specs.declared.coordinator.Waiting.{Waiting}
 use Rattle.us_model.specs.declared.coordinator.Waiting.TheVariants as waits
 use Rattle.us_model.specs.declared.coordinator.Session.{Session}
 use Rattle.us_model.specs.declared.coordinator.Desk.{Desk}
-use Rattle.us_model.specs.Sessions.{Acted, stays, tell, with_client, reply_out, with_packets, commits, partitions_written, request, request_in, performed, refused, committing, ended, is_nothing, resume, run_asks, run_session, closes_in, left, malformed, counted, framed, framed_in, take_frames, unless_closed, bytes, read_on, take_stream, version, version_in, recorded_by, is_awaited, prepared, prepared_in, told_all, decided, without, each_session}
+use Rattle.us_model.specs.Sessions.{Acted, stays, tell, with_client, reply_out, with_packets, commits, partitions_written, request, request_in, performed, refused, committing, is_nothing, resume, run_asks, run_session, closes_in, left, malformed, counted, framed, framed_in, take_frames, unless_closed, bytes, read_on, version, version_in, recorded_by, is_awaited, prepared, prepared_in, told_all, without, each_session}
 use Rattle.us_site.specs.declared.coordinator.Turn.{Turn}
 use Rattle.us_site.specs.declared.coordinator.Turn.TheVariants as turn
 use Rattle.us_site.specs.Steps.{acts}

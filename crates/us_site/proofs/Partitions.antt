@@ -1,5 +1,5 @@
 -- Lemmas on the partition's definitions.
-use Rattle.std.proofs.Common.{◌≡◌, ℕ, ◌<◌, ◌≤◌, ◌+◌, ◌-◌, ◌%◌, ◌^◌, List, [], ◌∷◌, length, drop, min, max, refl, ap, sym, ◌∙◌, arith, false, Bool, not, ◌&&◌}
+use Rattle.std.proofs.Common.{◌≡◌, ℕ, ◌<◌, ◌≤◌, ◌^◌, List, [], ◌∷◌, min, max, arith, false, Bool, ◌&&◌}
 use Rattle.std.specs.Prelude.{nat_le}
 use Rattle.std.proofs.lemmas.Bool.Decides.{nat_tests}
 use Rattle.us_kind.specs.declared.identity.Tid.{Tid}
@@ -7,7 +7,7 @@ use Rattle.us_base.specs.Vector.{entry}
 use Rattle.us_peer_wire.specs.declared.message.Actor.{Actor}
 use Rattle.us_model.specs.declared.partition.PreparedTx.{PreparedTx}
 use Rattle.us_model.specs.State.{Partition}
-use Rattle.us_model.specs.Partitions.{least_ts, next_timestamp, timestamp_for, may_prepare, contains_tid}
+use Rattle.us_model.specs.Partitions.{least_ts, next_timestamp, timestamp_for, may_prepare}
 
 -- the least may be begun with a lesser one
 pub least_ts-min : (n m : ℕ) (qs : List PreparedTx) → least_ts (min n m) qs ≡ min m (least_ts n qs)

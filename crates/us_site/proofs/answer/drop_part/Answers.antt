@@ -1,4 +1,4 @@
-use Rattle.std.proofs.Common.{rules, not, ap, sym, ◌∙◌}
+use Rattle.std.proofs.Common.{rules, not, ap, ◌∙◌}
 use Rattle.std.specs.Prelude.{◌==◌}
 use Rattle.std.proofs.lemmas.Fn.{filter_same}
 use Rattle.us_model.specs.Sessions.{without}

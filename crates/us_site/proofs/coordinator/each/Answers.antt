@@ -1,4 +1,4 @@
-use Rattle.std.proofs.Common.{◌≡◌, ◌∙◌, ap, sym, arith, ℕ}
+use Rattle.std.proofs.Common.{◌≡◌, ◌∙◌, ap, sym, arith}
 use Rattle.us_model.specs.declared.coordinator.Session.{Session}
 use Rattle.us_peer_wire.specs.declared.message.Actor.{Actor}
 use Rattle.us_model.specs.declared.coordinator.Desk.{Desk}

@@ -1,4 +1,4 @@
-use Rattle.std.proofs.Common.{◌≡◌, ◌<◌, ◌++◌, take, drop, length}
+use Rattle.std.proofs.Common.{◌≡◌, ◌<◌, ◌++◌, take, drop}
 use Rattle.us_model.specs.Sessions.{each_session}
 use Rattle.us_site.specs.Steps.{acts}
 use Rattle.us_site.proofs.coordinator.each.Given as goal

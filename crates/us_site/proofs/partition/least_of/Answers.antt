@@ -1,4 +1,4 @@
-use Rattle.std.proofs.Common.{◌≡◌, ◌∙◌, ap, sym, drop, get_or, ◌+◌}
+use Rattle.std.proofs.Common.{◌∙◌, ap, sym, drop, ◌+◌}
 use Rattle.us_model.specs.Partitions.{least_ts}
 use Rattle.us_site.proofs.Loops.{drop-turn}
 use Rattle.us_site.proofs.Partitions.{least_ts-min}

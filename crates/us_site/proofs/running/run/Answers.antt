@@ -1,5 +1,4 @@
-use Rattle.std.proofs.Common.{◌≡◌, ◌∙◌, sym, ap, length, true, false, arith, List, [], eqb-true}
-use Rattle.us_model.specs.declared.coordinator.Ask.{Ask}
+use Rattle.std.proofs.Common.{◌≡◌, ◌∙◌, sym, ap, length, true, false, arith, [], eqb-true}
 use Rattle.us_model.specs.declared.coordinator.Session.{Session}
 use Rattle.us_model.specs.Sessions.{Acted, is_nothing, run_session}
 use Rattle.us_site.proofs.Turns.{run-turn, run-waits, run-empty, request-asks, taken_first, no_items}
