@@ -4,7 +4,6 @@ ghost use Rattle.unistore.specs.Report.{IsReportOf};
 
 use std::alloc::Global;
 use us_kind::Memory;
-use us_order::every_run_is_por;
 use us_report::Report;
 use us_schedule::Line;
 
@@ -13,6 +12,5 @@ pub fn report_of_lines(alloc: Global, lines: &[Line]) -> Result<Report, Memory>
     requires { AllBuilt lines.now }
     ensures { IfOk result (λ report. IsReportOf lines.now report) }
 {
-    every_run_is_por();
     us_world::report_of_lines(alloc, lines)
 }

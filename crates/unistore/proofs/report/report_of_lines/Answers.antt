@@ -1,17 +1,14 @@
-use Rattle.std.proofs.Common.{sym, ap, subst}
-use Rattle.std.proofs.lemmas.Result.{IfOk-weaker}
-use Rattle.us_exec.specs.declared.Execution.{Execution}
-use Rattle.us_exec.specs.Consistency.{IsPor}
+use Rattle.std.specs.Prelude.{List, Result, Ok, Err, IfOk}
+use Rattle.us_kind.specs.declared.memory.Memory.{Memory}
 use Rattle.us_report.specs.declared.report.Report.{Report}
-use Rattle.us_world.specs.Lines.{IsReportOf as IsWorldReport}
+use Rattle.us_schedule.specs.declared.line.Line.{Line}
+use Rattle.us_world.specs.Lines.{IsReportOf as IsWorldReport, IsConsistent}
 use Rattle.unistore.specs.Report.{IsReportOf}
 use Rattle.unistore.proofs.report.report_of_lines.Goals as goal
 
+both : (lines : List Line) (result : Result Report Memory) → IfOk result (IsWorldReport lines) → IfOk result (λ report. IsConsistent report.execution) → IfOk result (IsReportOf lines)
+both lines (Ok report) is consistent = record { is = is; consistent = consistent }
+both lines (Err e) is consistent = tt
+
 pub returns : goal.returns
-returns c =
-    IfOk-weaker _ (IsWorldReport c.args.lines.now) (IsReportOf c.args.lines.now)
-    (λ report h. record {
-      is = h;
-      consistent = λ declared. subst (IsPor declared) (sym (ap (λ (r : Report). r.execution) h.is)) (c.every_run_is_por.ensures h.happenings declared);
-    })
-    c.report_of_lines.ensures
+returns c = both c.args.lines.now c.report_of_lines.result c.report_of_lines.ensures.report c.report_of_lines.ensures.consistent
