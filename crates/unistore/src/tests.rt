@@ -97,6 +97,45 @@ o 1:61 read value:78\n\
 committed 2 strong 0 aborted 0 loose 0 links 0 refused 0 waiting 0\n\
 ";
 
+/// The second session begins before the first writes, and reads after that.
+const EARLIER_SNAPSHOT: &str = "\
+---\n\
+open 1 1\n\
+open 1 1\n\
+bytes 1 1 2 000000020101\n\
+flush 1 1\n\
+bytes 1 1 1 00000002010100000009010201016102000178000000020103\n\
+flush 1 1\n\
+bytes 1 1 2 00000006010201016101000000020103\n\
+flush 1 1\n\
+";
+
+/// The reader answers as of its beginning, where one store with one copy would give the value, and stands first.
+const EARLIER_SNAPSHOT_REPORT: &str = "\
+t 1.1.1 1.1.2 1 causal -\n\
+o 1:61 read none\n\
+t 1.1.2 1.1.1 1 causal -\n\
+o 1:61 write:78 done\n\
+committed 2 strong 0 aborted 0 loose 0 links 0 refused 0 waiting 0\n\
+";
+
+/// A session sends a frame that is no request, and then whole transactions.
+const MORE_AFTER_REFUSAL: &str = "\
+---\n\
+open 1 1\n\
+bytes 1 1 1 0000000201010000000201ff\n\
+flush 1 1\n\
+bytes 1 1 1 00000002010100000009010201016102000178000000020103\n\
+flush 1 1\n\
+";
+
+/// Nothing that came after the refusal was done.
+const MORE_AFTER_REFUSAL_REPORT: &str = "\
+l 1.1.1 1.1.1 left -\n\
+x 1.1.1 2 1\n\
+committed 0 strong 0 aborted 0 loose 1 links 0 refused 1 waiting 0\n\
+";
+
 /// How a call ended, and what it wrote.
 #[derive(Drop)]
 struct Outcome {
@@ -242,20 +281,27 @@ fn ends_of_lines(rt: HostRuntime) -> Result<(), Fail> {
 }
 
 #[test]
-fn two_transactions(rt: HostRuntime) -> Result<(), Fail> {
-    for input in [TWO, BYTE_BY_BYTE] {
+fn reports(rt: HostRuntime) -> Result<(), Fail> {
+    for (input, want) in [
+        (TWO, TWO_REPORT),
+        (BYTE_BY_BYTE, TWO_REPORT),
+        (EARLIER_SNAPSHOT, EARLIER_SNAPSHOT_REPORT),
+        (MORE_AFTER_REFUSAL, MORE_AFTER_REFUSAL_REPORT),
+    ] {
         let ended = answered(rt.alloc(), "replay", input)?;
-        assert_eq!(rt; ended.status, Status::Done);
-        assert_eq!(rt; ended.written.as_slice(), TWO_REPORT.as_bytes());
+        assert_eq!(rt; ended.status, Status::Done, "{input}");
+        assert_eq!(rt; ended.written.as_slice(), want.as_bytes(), "{input}");
     }
     Ok(())
 }
 
 #[test]
 fn a_read_that_fails(rt: HostRuntime) -> Result<(), Fail> {
-    let ended = ended(rt.alloc(), "replay", TWO, 4096, 2, 0)?;
-    assert_eq!(rt; ended.status, Status::ReadFault);
-    assert_eq!(rt; ended.written.len(), 0);
+    for failing in [1, 2] {
+        let ended = ended(rt.alloc(), "replay", TWO, 4096, failing, 0)?;
+        assert_eq!(rt; ended.status, Status::ReadFault, "{failing}");
+        assert_eq!(rt; ended.written.len(), 0, "{failing}");
+    }
     Ok(())
 }
 
@@ -269,6 +315,24 @@ fn a_write_that_fails(rt: HostRuntime) -> Result<(), Fail> {
         let ended = ended(rt.alloc(), words, input, 1, 0, 17)?;
         assert_eq!(rt; ended.status, Status::WriteFault, "{want}");
         assert_eq!(rt; ended.written.as_slice(), want.as_bytes());
+    }
+    Ok(())
+}
+
+#[test]
+fn each_write_that_fails(rt: HostRuntime) -> Result<(), Fail> {
+    let mut written = 0;
+    let mut failing = 1;
+    for _ in TWO_REPORT.bytes() {
+        let ended = ended(rt.alloc(), "replay", TWO, 1, 0, failing)?;
+        assert_eq!(rt; ended.status, Status::WriteFault, "{failing}");
+        assert_eq!(rt;
+            Some(ended.written.as_slice()),
+            TWO_REPORT.as_bytes().get(..written),
+            "{failing}"
+        );
+        written = written.wrapping_add(1);
+        failing = failing.wrapping_add(1);
     }
     Ok(())
 }

@@ -1,0 +1,64 @@
+-- Executions of two transactions, worked by hand, of which one thing is wrong.
+use Rattle.std.specs.Prelude.{List, [], ◌∷◌, Bool, true, false}
+use Rattle.us_value.specs.declared.item.Item.{Item}
+use Rattle.us_value.specs.declared.operation.Op.TheVariants.{RegisterRead, RegisterWrite}
+use Rattle.us_value.specs.declared.operation.Answer.{Answer}
+use Rattle.us_value.specs.declared.operation.Answer.TheVariants as answer
+use Rattle.us_exec.specs.declared.SessionName.{SessionName}
+use Rattle.us_exec.specs.declared.Count.{Count}
+use Rattle.us_exec.specs.declared.Entry.{Entry}
+use Rattle.us_exec.specs.declared.Execution.{Execution}
+use Rattle.us_exec.specs.Consistency.{IsClosed, IsValued, IsOrdered}
+
+abbrev pub session : SessionName
+session = record { site = 1; coord = 1; number = 1 }
+
+abbrev pub item : Item
+item = record { space = 1; id = 97 ∷ [] }
+
+-- the session's first transaction writes an item
+abbrev pub writer : Bool → Entry
+writer strong =
+    record {
+      tid = record { site = 1; coord = 1; seq = 1 };
+      session = session;
+      number = 1;
+      strong = strong;
+      ops = record { item = item; op = RegisterWrite (120 ∷ []); answer = answer.Done } ∷ [];
+      past = [];
+    }
+
+-- its second one reads the item, and has this past and this answer
+abbrev pub reader : Bool → List Count → Answer → Entry
+reader strong past told =
+    record {
+      tid = record { site = 1; coord = 1; seq = 2 };
+      session = session;
+      number = 2;
+      strong = strong;
+      ops = record { item = item; op = RegisterRead; answer = told } ∷ [];
+      past = past;
+    }
+
+-- the past that holds the first
+abbrev pub first_counted : List Count
+first_counted = record { session = session; count = 1 } ∷ []
+
+abbrev pub executed : List Entry → Execution
+executed entries = record { entries = entries; loose = []; links = [] }
+
+-- the second transaction's past lacks the first one of its session
+abbrev pub OverlookedPast : Type 0
+OverlookedPast = IsClosed (executed (writer false ∷ reader false [] answer.Nothing ∷ [])) → ⊥
+
+-- the first stands after the second, whose past it is in
+abbrev pub WrongOrder : Type 0
+WrongOrder = IsClosed (executed (reader false first_counted (answer.Value (120 ∷ [])) ∷ writer false ∷ [])) → ⊥
+
+-- the second doesn't answer what the first wrote, which its past holds
+abbrev pub StaleRead : Type 0
+StaleRead = IsValued (executed (writer false ∷ reader false first_counted answer.Nothing ∷ [])) → ⊥
+
+-- both are strong, every operation conflicts with every other, and neither is before the other
+abbrev pub OverlookedConflict : Type 0
+OverlookedConflict = IsOrdered (λ a b. true) (executed (writer true ∷ reader true [] answer.Nothing ∷ [])) → ⊥
