@@ -1,2 +1,3 @@
 pub mod Vectors
 pub mod Arrays
+pub mod Lattice

@@ -1,3 +1,4 @@
 pub mod Place
 pub mod Shape
 pub mod Vector
+pub mod Lattice

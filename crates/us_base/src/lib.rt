@@ -1,6 +1,7 @@
 //! Shapes and vectors.
 #![tactic(auto)]
 
+pub mod laws;
 mod place;
 mod shape;
 mod vector;

@@ -1,5 +1,5 @@
-ghost use Rattle.std.specs.Prelude.{◌≡◌, ◌<◌, ◌^◌};
-ghost use Rattle.us_base.specs.Vector.{entry, at_most, join, meet, with_entry, sum_of, zero};
+ghost use Rattle.std.specs.Prelude.{◌≡◌, ◌<◌, ◌^◌, ◌↔◌, IsTrue};
+ghost use Rattle.us_base.specs.Vector.{entry, at_most, AtMost, join, meet, with_entry, sum_of, zero};
 
 use std::marker::Model;
 
@@ -44,7 +44,8 @@ impl Vector {
 
     /// Whether each entry is at most the other's.
     pub fn at_most(&self, other: &Vector) -> bool
-        ensures { result ≡ at_most self.now other.now }
+        ensures value { result ≡ at_most self.now other.now }
+        ensures entries { IsTrue result ↔ AtMost self.now other.now }
     {
         for (i, entry) in self.entries.iter().enumerate() {
             if *entry > other.entries[i] {

@@ -1,4 +1,5 @@
 pub mod ListLemmas
+pub mod Members
 pub mod Permutations
 pub mod SameBytes
 pub mod TestLemmas

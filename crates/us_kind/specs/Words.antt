@@ -40,10 +40,6 @@ tid_eq a b = (a.site == b.site) && ((a.coord == b.coord) && (a.seq == b.seq))
 abbrev pub tid_less : Tid → Tid → Bool
 tid_less a b = lex a.site b.site (lex a.coord b.coord (nat_lt a.seq b.seq))
 
--- the same update
-abbrev pub tag_eq : Tag → Tag → Bool
-tag_eq a b = tid_eq a.tid b.tid && (a.place == b.place)
-
 -- the update that a stamp is of
 abbrev pub tag_of : Stamp → Tag
 tag_of s = record { tid = s.tid; place = s.place }

@@ -9,6 +9,8 @@ mod laws;
 mod memory;
 mod replicated;
 mod slot;
+#[cfg(test)]
+mod tests;
 
 pub use bytes::Bytes;
 pub use identity::{Stamp, Tag, Tid};

@@ -1,4 +1,5 @@
 pub mod Multi
 pub mod MultiLaws
 pub mod Present
+pub mod Room
 pub mod Writes

@@ -1,25 +1,24 @@
 -- The multi-value register keeps the laws of a replicated type.
 use Rattle.std.proofs.Common.{◌≡◌, ◌⊎◌, ℕ, List, [], ◌∷◌, Bool, true, false, cond, refl, sym, ap, ◌∙◌, subst, true≢false, inl, inr, arith}
 use Rattle.std.proofs.lemmas.Bool.{and_parts}
-use Rattle.std.specs.Cmp.{eq_by_cmp_equiv}
-use Rattle.std.specs.FinMap.{FinMap, empty, entries, entries_sorted, get, insert, get-insert, get-empty, same_map}
+use Rattle.std.specs.FinMap.{entries, get, insert, get-insert, get-empty, same_map}
 use Rattle.std.specs.List.{list_any, cons_option}
 use Rattle.std.specs.Ordering.{eq_by_cmp}
-use Rattle.std.specs.Prelude.{Option, Some, None, ◌↔◌, filter, filter_map, is_some, unwrap_or, if◌then◌else◌, ◌&&◌, ◌||◌, not}
+use Rattle.std.specs.Prelude.{Option, Some, None, ◌↔◌, filter, filter_map, is_some, unwrap_or, if◌then◌else◌, ◌&&◌, ◌||◌}
 use Rattle.us_kind.proofs.ListLemmas.{in_filter, filter_in}
 use Rattle.us_kind.proofs.TestLemmas.{bytes_eq-true}
 use Rattle.us_kind.specs.Ascending.{all_in, ascending_same}
-use Rattle.us_kind.specs.Defaults.{value_at, key_same, key_itself}
-use Rattle.us_kind.specs.Keys.{keys_where, keys_where-passes, passes-keys_where, any-keys_where, keys_where-any}
+use Rattle.us_kind.specs.Defaults.{key_same, key_itself}
+use Rattle.us_kind.specs.Keys.{keys_where-passes, passes-keys_where, any-keys_where, keys_where-any}
 use Rattle.us_kind.specs.Orders.{bytes_not, bytes_same, bytes_trans}
 use Rattle.us_kind.specs.Tags.{tag_cmp, tag_cmp-total, tag_cmp-IsAntisymmetric}
 use Rattle.us_kind.specs.Histories.{any_in, in_any}
-use Rattle.us_kind.specs.Updates.{Update, Stamped, All, AllLater, StandsBefore, Commutes, CountsUpdates, AnswersInOrder, WasPrepared, IsHistory, before, state_after, update_of, updates_of, with_sums}
-use Rattle.us_kind.specs.Words.{In, ascending, bytes_eq, bytes_less, tag_of}
+use Rattle.us_kind.specs.Updates.{Update, Stamped, All, AllLater, StandsBefore, Commutes, CountsUpdates, AnswersInOrder, WasPrepared, before, state_after, update_of, updates_of, with_sums}
+use Rattle.us_kind.specs.Words.{In, bytes_eq, bytes_less, tag_of}
 use Rattle.us_kind.specs.declared.identity.Stamp.{Stamp}
 use Rattle.us_kind.specs.declared.identity.Tag.{Tag}
 use Rattle.us_multi.specs.Multi.{multi_initial, multi_updated, multi_answered, multi_prepared, multi_reads, writes, value_of, is_overwritten, multi_value}
-use Rattle.us_multi.specs.Writes.{Writes, greater, written, with_write, overwritten, live_tags}
+use Rattle.us_multi.specs.Writes.{Writes, greater, written, overwritten, live_tags}
 use Rattle.us_multi.specs.declared.multi.MultiOp.{MultiOp}
 use Rattle.us_multi.specs.declared.multi.MultiOp.TheVariants.{MultiRead, MultiWrite}
 use Rattle.us_multi.specs.declared.multi.MultiEffect.{MultiEffect}
@@ -28,26 +27,26 @@ use Rattle.us_multi.specs.declared.multi.MultiAnswer.TheVariants.{Values}
 
 -- ---- any order
 
-tie : Tag → Tag → Bool
+pub tie : Tag → Tag → Bool
 tie q t = eq_by_cmp tag_cmp q t
 
-tie_same : (q t : Tag) → tie q t ≡ true → q ≡ t
+pub tie_same : (q t : Tag) → tie q t ≡ true → q ≡ t
 unfolding tie
 tie_same q t e = key_same tag_cmp-total tag_cmp-IsAntisymmetric q t e
 
-tie_itself : (t : Tag) → tie t t ≡ true
+pub tie_itself : (t : Tag) → tie t t ≡ true
 unfolding tie
 tie_itself t = key_itself tag_cmp-total t
 
 -- some of these is the tag
-is_in : Tag → List Tag → Bool
+pub is_in : Tag → List Tag → Bool
 is_in t ts = list_any (λ s. tie t s) ts
 
 -- what an effect leaves at a tag
 at_tag : Tag → Option (Option (List ℕ)) → MultiEffect → Tag → Option (Option (List ℕ))
 at_tag q o (Written v ts) t = cond (tie q t) (Some (written v (cond (is_in q ts) (Some None) o))) (cond (is_in q ts) (Some None) o)
 
-get-overwritten : (m : Writes) (ts : List Tag) (q : Tag) → get (overwritten m ts) q ≡ cond (is_in q ts) (Some None) (get m q)
+pub get-overwritten : (m : Writes) (ts : List Tag) (q : Tag) → get (overwritten m ts) q ≡ cond (is_in q ts) (Some None) (get m q)
 unfolding is_in tie
 get-overwritten m [] q = refl
 get-overwritten m (t ∷ ts) q = get-overwritten (insert m t None) ts q ∙ ap (cond (is_in q ts) (Some None)) (get-insert tag_cmp-total m t None q) ∙ on (tie q t) (is_in q ts)
@@ -288,7 +287,7 @@ wrote q z (u ∷ us) order h = on (names q u.effect) (tie q (tag_of u.stamp)) re
 
 -- ---- what the tags of a write say
 
-is_in_in : (q : Tag) (ts : List Tag) → is_in q ts ≡ true → In q ts
+pub is_in_in : (q : Tag) (ts : List Tag) → is_in q ts ≡ true → In q ts
 unfolding is_in
 is_in_in q [] h = absurd (true≢false (sym h))
 is_in_in q (t ∷ ts) h = on (tie q t) refl h (is_in_in q ts)
@@ -297,7 +296,7 @@ is_in_in q (t ∷ ts) h = on (tie q t) refl h (is_in_in q ts)
     on true e h again = inl (sym (tie_same q t e))
     on false e h again = inr (again h)
 
-in_is_in : (q : Tag) (ts : List Tag) → In q ts → is_in q ts ≡ true
+pub in_is_in : (q : Tag) (ts : List Tag) → In q ts → is_in q ts ≡ true
 unfolding is_in
 in_is_in q [] i = absurd i
 in_is_in q (t ∷ ts) (inl e) = ap (λ b. b || list_any (λ s. tie q s) ts) (subst (λ k. tie k t ≡ true) e (tie_itself t))

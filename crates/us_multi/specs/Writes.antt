@@ -1,11 +1,10 @@
 -- What a multi-value register keeps: at the tag of each write its value, or that it was overwritten. That a write was
 -- overwritten is kept for good: of two effects with one tag, each undone by a third, nothing else could be the same
 -- in every order.
-use Rattle.std.specs.Prelude.{ℕ, List, [], ◌∷◌, Bool, Option, Some, None, is_some, if◌then◌else◌}
+use Rattle.std.specs.Prelude.{ℕ, List, [], ◌∷◌, Option, Some, None, is_some, if◌then◌else◌}
 use Rattle.std.specs.Coded.{Coded, coded_list, coded_ℕ, coded_option}
 use Rattle.std.specs.FinMap as finite
 use Rattle.std.specs.FinMap.{FinMap, get, insert, entries}
-use Rattle.us_kind.specs.Defaults.{value_at}
 use Rattle.us_kind.specs.Keys.{keys_where}
 use Rattle.us_kind.specs.Tags.{tag_cmp, tag_code}
 use Rattle.us_kind.specs.Words.{bytes_less}

@@ -80,16 +80,13 @@ impl Replicated for MultiValue {
     }
 
     fn apply(
-        _alloc: Global,
+        alloc: Global,
         state: &mut MultiState,
         effect: &MultiEffect,
         stamp: Stamp,
     ) -> Result<(), Memory> {
         let MultiEffect::MultiWrite { value, tags } = effect;
-        let mut next = state.without(tags.as_slice())?;
-        next.write(stamp.tag(), value)?;
-        *state = next;
-        Ok(())
+        state.write(alloc, stamp.tag(), value, tags.as_slice())
     }
 
     ghost commutes = { multi-commutes };

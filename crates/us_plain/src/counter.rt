@@ -41,6 +41,17 @@ impl Model for CounterState {
     ghost invariant = { λ s. IsWithin (s.updates) (s.sum) };
 }
 
+impl CounterState {
+    ghost use Rattle.std.specs.Prelude.{◌≡◌};
+
+    /// How many additions it counts.
+    pub fn updates(&self) -> u64
+        ensures { result ≡ self.now.updates }
+    {
+        self.updates
+    }
+}
+
 /// A counter: the sum of all amounts.
 pub struct Counter;
 

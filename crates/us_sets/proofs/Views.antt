@@ -1,17 +1,15 @@
 -- Marks and elements as their trees hold them.
 use Rattle.std.proofs.lemmas.List.{take_more}
-use Rattle.std.proofs.Common.{◌≡◌, ℕ, ◌+◌, ◌<◌, take, get_or, ◌==◌, List, [], ◌∷◌, ◌++◌, Bool, true, false, cond, length, refl, sym, ap, ◌∙◌, subst, T, inl, true≢false, arith, eqb-true}
-use Rattle.std.specs.Prelude.{ℤ, pos, negsuc, ◌+ℤ◌, IsTrue, ◌↔◌, unwrap_or, Option, Some, None, filter, map, ◌||◌, ◌&&◌}
+use Rattle.std.proofs.Common.{◌≡◌, ℕ, ◌+◌, ◌<◌, take, get_or, ◌==◌, List, [], ◌∷◌, ◌++◌, Bool, true, false, cond, length, refl, sym, ap, ◌∙◌, subst, inl, true≢false, arith, eqb-true}
+use Rattle.std.specs.Prelude.{ℤ, pos, negsuc, ◌+ℤ◌, IsTrue, ◌↔◌, unwrap_or, Option, Some, None, is_some, OnOk, OnErr, ◌||◌}
+use Rattle.std.specs.declared.result.Result.{Result}
+use Rattle.std.specs.declared.result.Result.TheVariants.{Ok, Err}
 use Rattle.std.specs.BTreeMap.{is_at}
-use Rattle.std.specs.Cmp.{IsTotalOrder, eq_by_cmp_equiv}
-use Rattle.std.specs.FinMap.{IsAntisymmetric, get, insert, remove, entries, from_entries, find, is_sorted, get-entries, get-from_entries, get-insert, get-remove, entries_sorted, same_map, empty, len-empty, get-empty, empty_of_len}
-use Rattle.std.specs.FinMap.Entries.{below_all, same_entries}
-use Rattle.std.specs.List.{AllByRecursion, list_any}
+use Rattle.std.specs.FinMap.{IsAntisymmetric, get, insert, remove, contains_key, entries, from_entries, find, get-from_entries, get-insert, get-remove, same_map, empty, len-empty, get-empty, empty_of_len}
+use Rattle.std.specs.List.{list_any}
 use Rattle.std.specs.List.Sorted.{IsStrictlySortedBy}
 use Rattle.std.specs.Map.{keys_of, values_of, lookup}
-use Rattle.std.specs.Ordering.{eq_by_cmp, is_lt, nat_cmp}
-use Rattle.std.specs.declared.cmp.Ordering.{Ordering}
-use Rattle.std.specs.declared.cmp.Ordering.TheVariants.{Less}
+use Rattle.std.specs.Ordering.{eq_by_cmp, nat_cmp}
 use Rattle.us_kind.specs.Tags.{tag_cmp, tag_cmp-total, tag_cmp-IsAntisymmetric}
 use Rattle.us_kind.specs.declared.identity.Tag.{Tag}
 use Rattle.std.specs.Cmp.Lexicographic.{slice_cmp, nat_list_cmp_total}
@@ -19,7 +17,7 @@ use Rattle.std.specs.FinMap.{slice_cmp-IsAntisymmetric, nat_cmp-IsAntisymmetric}
 use Rattle.us_sets.specs.Set.{marks_of}
 use Rattle.us_sets.specs.Elements.{Elements}
 use Rattle.us_kind.specs.Words.{In}
-use Rattle.us_kind.specs.Defaults.{key_itself, with_value}
+use Rattle.us_kind.specs.Defaults.{key_itself, key_same, with_value}
 use Rattle.us_kind.specs.Keys.{keys_where, keys_where-passes}
 use Rattle.us_sets.specs.Marks.{Counts, count_at, is_zero, is_positive, is_nothing, is_live, live_tags, shifted, taken}
 use Rattle.us_kind.proofs.TreeViews.{sorted_entries, entries-from_entries, get-view, view-insert, view-remove, list_any-values_of}
@@ -134,3 +132,76 @@ keep-remove es fs x m none each = view-remove nat_list_cmp_total one_by_bytes es
 pub keep-insert : (es fs : List (List ℕ × Counts)) (x y : List ℕ) (m : Counts) → y ≡ x → is_nothing m ≡ false → Changes es fs y (Some m) → from_entries {R = slice_cmp nat_cmp} fs ≡ with_value empty is_nothing (from_entries es) x m
 keep-insert es fs x y m same some each =
     view-insert nat_list_cmp_total one_by_bytes es fs x m (subst (λ k. Changes es fs k (Some m)) same each) ∙ kept_by false (from_entries es) x m some
+
+-- ---- one key
+
+pub looked_up : (es : List (Tag × ℤ)) (t : Tag) → lookup (is_at (tag_cmp t)) es ≡ get (from_entries {R = tag_cmp} es) t
+looked_up es t = sym (get-view tag_cmp-total tag_cmp-IsAntisymmetric es t)
+
+pub inserted : (es fs : List (Tag × ℤ)) (t : Tag) (v : ℤ) → ((q : Tag) → lookup (is_at (tag_cmp q)) fs ≡ cond (is_at (tag_cmp t) q) (Some v) (lookup (is_at (tag_cmp q)) es))
+    → from_entries {R = tag_cmp} fs ≡ insert (from_entries es) t v
+inserted es fs t v each = view-insert tag_cmp-total tag_cmp-IsAntisymmetric es fs t v each
+
+pub element_at : (es : List (List ℕ × Counts)) (x : List ℕ) → lookup (is_at (slice_cmp nat_cmp x)) es ≡ get (from_entries {R = slice_cmp nat_cmp} es) x
+element_at es x = sym (get-view nat_list_cmp_total one_by_bytes es x)
+
+pub element_inserted : (es fs : List (List ℕ × Counts)) (x : List ℕ) (m : Counts) → Changes es fs x (Some m) → from_entries {R = slice_cmp nat_cmp} fs ≡ insert (from_entries es) x m
+element_inserted es fs x m each = view-insert nat_list_cmp_total one_by_bytes es fs x m each
+
+pub element_removed : (es fs : List (List ℕ × Counts)) (x : List ℕ) → Changes es fs x None → from_entries {R = slice_cmp nat_cmp} fs ≡ remove (from_entries es) x
+element_removed es fs x each = view-remove nat_list_cmp_total one_by_bytes es fs x each
+
+pub is_nothing-empty : is_nothing empty ≡ true
+is_nothing-empty = ap (λ n. n == 0) (len-empty tag_cmp ℤ)
+
+-- what is kept of an element after its marks are moved and swept
+remove_insert : (s : Elements) (x : List ℕ) (m : Counts) → remove (insert s x m) x ≡ remove s x
+remove_insert s x m = same_map nat_list_cmp_total one_by_bytes _ _ (λ q.
+    get-remove nat_list_cmp_total (insert s x m) x q ∙ ap (cond (eq_by_cmp (slice_cmp nat_cmp) q x) None) (get-insert nat_list_cmp_total s x m q)
+    ∙ on (eq_by_cmp (slice_cmp nat_cmp) q x) (get s q) ∙ sym (get-remove nat_list_cmp_total s x q))
+  where
+    on : (b : Bool) (o : Option Counts) → cond b None (cond b (Some m) o) ≡ cond b None o
+    on true o = refl
+    on false o = refl
+
+marks_of-insert : (s : Elements) (x : List ℕ) (m : Counts) → marks_of (insert s x m) x ≡ m
+marks_of-insert s x m = ap (λ r. unwrap_or r empty) (get-insert nat_list_cmp_total s x m x ∙ ap (λ b. cond b (Some m) (get s x)) (key_itself nat_list_cmp_total x))
+
+pub swept-element : (s : Elements) (x : List ℕ) (m : Counts) → cond (is_nothing (marks_of (insert s x m) x)) (remove (insert s x m) x) (insert s x m) ≡ with_value empty is_nothing s x m
+swept-element s x m = ap (λ k. cond (is_nothing k) (remove (insert s x m) x) (insert s x m)) (marks_of-insert s x m) ∙ on (is_nothing m)
+  where
+    on : (b : Bool) → cond b (remove (insert s x m) x) (insert s x m) ≡ cond b (remove s x) (insert s x m)
+    on true = remove_insert s x m
+    on false = refl
+
+-- of an element that isn't kept there are no marks
+pub marks_of-missing : (s : Elements) (x : List ℕ) → contains_key s x ≡ false → marks_of s x ≡ empty
+marks_of-missing s x e = on (get s x) e
+  where
+    on : (o : Option Counts) → is_some o ≡ false → unwrap_or o empty ≡ empty
+    on None e = refl
+    on (Some m) e = absurd (cc)
+
+insert_same : (s : Elements) (x : List ℕ) (m : Counts) → get s x ≡ Some m → insert s x m ≡ s
+insert_same s x m e = same_map nat_list_cmp_total one_by_bytes _ _ (λ q. get-insert nat_list_cmp_total s x m q ∙ on q (eq_by_cmp (slice_cmp nat_cmp) q x) refl)
+  where
+    on : (q : List ℕ) (b : Bool) → eq_by_cmp (slice_cmp nat_cmp) q x ≡ b → cond b (Some m) (get s q) ≡ get s q
+    on q true t = sym (ap (get s) (key_same nat_list_cmp_total one_by_bytes q x t) ∙ e)
+    on q false t = refl
+
+pub on_ok : {X E : Type 0} {P Q : Type 0} (r : Result X E) → (P → Q) → OnOk r P → OnOk r Q
+on_ok (Ok x) f p = f p
+on_ok (Err e) f p = p
+
+pub on_err : {X E : Type 0} {P Q : Type 0} (r : Result X E) → (P → Q) → OnErr r P → OnErr r Q
+on_err (Ok x) f p = p
+on_err (Err e) f p = f p
+
+-- a change of the marks of an element that is kept
+module _ (s : Elements) (x y : List ℕ) (old new : Counts) (same : y ≡ x) (here : get s y ≡ Some old) where
+  pub changed_here : (f : Counts → Counts) → new ≡ f old → insert s y new ≡ insert s x (f (marks_of s x))
+  changed_here f is =
+      ap (insert s y) (is ∙ ap (λ o. f (unwrap_or o empty)) (sym here)) ∙ ap (λ k. insert s k (f (marks_of s k))) same
+
+  pub unchanged_here : new ≡ old → insert s y new ≡ s
+  unchanged_here is = ap (insert s y) is ∙ insert_same s y old here

@@ -1,7 +1,7 @@
 -- What is kept of the updates that add a thing and of those that take it away: at each update's tag, how often it was
 -- added less how often it was taken away. A thing is there where some count is above 0. A count of 0 is not kept, so
 -- an addition that was taken away leaves nothing behind; one below 0 waits for an addition that has not arrived yet.
-use Rattle.std.specs.Prelude.{ℕ, ◌==◌, refl, ℤ, pos, negsuc, ◌+ℤ◌, int_lt, List, [], ◌∷◌, Bool, ◌&&◌, not}
+use Rattle.std.specs.Prelude.{◌==◌, ℤ, pos, negsuc, ◌+ℤ◌, int_lt, List, [], ◌∷◌, Bool, ◌&&◌, not}
 use Rattle.std.specs.Coded.{Coded, coded_ℤ}
 use Rattle.std.specs.FinMap as finite
 use Rattle.std.specs.FinMap.{FinMap, entries}

@@ -1,6 +1,6 @@
 -- Counts may be changed in any order, and say what is there.
 use Rattle.std.proofs.Common.{◌≡◌, ℕ, zero, suc, ◌+◌, ◌≤◌, List, [], ◌∷◌, Bool, true, false, cond, refl, sym, ap, ◌∙◌, subst, true≢false, inl, inr, arith}
-use Rattle.std.specs.Prelude.{ℤ, pos, negsuc, ◌+ℤ◌, ◌-ℤ◌, not, ◌&&◌, ◌||◌, unwrap_or}
+use Rattle.std.specs.Prelude.{ℤ, pos, negsuc, ◌+ℤ◌, ◌-ℤ◌, not, ◌&&◌, unwrap_or}
 use Rattle.std.proofs.lemmas.Bool.{and_parts}
 use Rattle.std.proofs.lemmas.Int.{ints}
 use Rattle.std.specs.Cmp.{both_ways}
@@ -19,7 +19,7 @@ use Rattle.us_sets.specs.Marks.{Counts, count_at, shifted, taken, is_zero, is_po
 
 -- ---- any order
 
-is_zero-is : (n : ℤ) → is_zero n ≡ true → n ≡ pos 0
+pub is_zero-is : (n : ℤ) → is_zero n ≡ true → n ≡ pos 0
 is_zero-is n e = grind (arith, ints)
 
 shifted-shifted : (m : Counts) (s t : Tag) (a b : ℤ) → shifted (shifted m s a) t b ≡ shifted (shifted m t b) s a
@@ -45,7 +45,7 @@ moved-commutes m Still b s t = refl
 -- ---- what is counted
 
 -- how often a tag stands in a list
-times : Tag → List Tag → ℕ
+unfoldable pub times : Tag → List Tag → ℕ
 times t [] = 0
 times t (s ∷ ss) = cond (eq_by_cmp tag_cmp t s) 1 0 + times t ss
 
@@ -70,18 +70,18 @@ removals : {O E : Type 0} → (E → Move) → Tag → List (Stamped O E) → �
 removals move t [] = 0
 removals move t (u ∷ us) = times t (tags_of (move u.effect)) + removals move t us
 
-count_at-shifted : (m : Counts) (s : Tag) (a : ℤ) (t : Tag) → count_at (shifted m s a) t ≡ cond (eq_by_cmp tag_cmp t s) (count_at m t +ℤ a) (count_at m t)
+pub count_at-shifted : (m : Counts) (s : Tag) (a : ℤ) (t : Tag) → count_at (shifted m s a) t ≡ cond (eq_by_cmp tag_cmp t s) (count_at m t +ℤ a) (count_at m t)
 count_at-shifted m s a t = value_at-with_value tag_cmp-total tag_cmp-IsAntisymmetric (pos 0) is_zero is_zero-is m s (count_at m s +ℤ a) t ∙ on (eq_by_cmp tag_cmp t s) refl
   where
     on : (b : Bool) → eq_by_cmp tag_cmp t s ≡ b → cond b (count_at m s +ℤ a) (count_at m t) ≡ cond b (count_at m t +ℤ a) (count_at m t)
     on true e = ap (λ k. count_at m k +ℤ a) (sym (key_same tag_cmp-total tag_cmp-IsAntisymmetric t s e))
     on false e = refl
 
-one_less : (b : Bool) (n : ℤ) (k : ℕ) → (cond b (n +ℤ negsuc 0) n -ℤ pos k) ≡ (n -ℤ pos (cond b 1 0 + k))
+pub one_less : (b : Bool) (n : ℤ) (k : ℕ) → (cond b (n +ℤ negsuc 0) n -ℤ pos k) ≡ (n -ℤ pos (cond b 1 0 + k))
 one_less true n k = omega (arith, ints)
 one_less false n k = omega (arith, ints)
 
-count_at-taken : (m : Counts) (ts : List Tag) (t : Tag) → count_at (taken m ts) t ≡ (count_at m t -ℤ pos (times t ts))
+pub count_at-taken : (m : Counts) (ts : List Tag) (t : Tag) → count_at (taken m ts) t ≡ (count_at m t -ℤ pos (times t ts))
 unfolding times
 count_at-taken m [] t = omega (arith, ints)
 count_at-taken m (s ∷ ss) t =
@@ -116,7 +116,7 @@ marks_after-with_sums move sum m (u ∷ us) = marks_after-with_sums move sum (mo
 
 -- ---- which tags are counted
 
-times_in : (t : Tag) (ts : List Tag) → 1 ≤ times t ts → In t ts
+pub times_in : (t : Tag) (ts : List Tag) → 1 ≤ times t ts → In t ts
 unfolding times
 times_in t [] h = absurd (omega arith)
 times_in t (s ∷ ss) h = on (eq_by_cmp tag_cmp t s) refl h (times_in t ss)
@@ -125,7 +125,7 @@ times_in t (s ∷ ss) h = on (eq_by_cmp tag_cmp t s) refl h (times_in t ss)
     on true e h again = inl (sym (key_same tag_cmp-total tag_cmp-IsAntisymmetric t s e))
     on false e h again = inr (again (omega arith))
 
-in_times : (t : Tag) (ts : List Tag) → In t ts → 1 ≤ times t ts
+pub in_times : (t : Tag) (ts : List Tag) → In t ts → 1 ≤ times t ts
 unfolding times
 in_times t [] i = absurd i
 in_times t (s ∷ ss) (inl e) =

@@ -82,17 +82,14 @@ impl Replicated for EnableWinsFlag {
     }
 
     fn apply(
-        _alloc: Global,
+        alloc: Global,
         state: &mut Marks,
         effect: &FlagEffect,
         stamp: Stamp,
     ) -> Result<(), Memory> {
         match effect {
             FlagEffect::Enable => state.shift(stamp.tag(), 1),
-            FlagEffect::Disable { tags } => {
-                *state = state.without(tags.as_slice())?;
-                Ok(())
-            }
+            FlagEffect::Disable { tags } => state.take(alloc, tags.as_slice()),
         }
     }
 

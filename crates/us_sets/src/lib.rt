@@ -4,6 +4,8 @@
 mod flag;
 mod marks;
 mod set;
+#[cfg(test)]
+mod tests;
 
 pub use flag::{EnableWinsFlag, FlagAnswer, FlagEffect, FlagOp};
 pub use marks::Marks;

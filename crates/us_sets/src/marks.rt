@@ -1,10 +1,15 @@
-ghost use Rattle.std.specs.Prelude.{◌≡◌, ◌+ℤ◌, OnOk, OnErr, IfOk};
+ghost use Rattle.std.specs.Prelude.{◌≡◌, ◌+ℤ◌, ◌≤ℤ◌, ◌++◌, ◌∷◌, [], ◌-◌, ◌^◌, ◌≤◌, length, pos, negsuc, true, OnOk, OnErr, IfOk};
 ghost use Rattle.us_sets.specs.Marks.{is_zero};
 
 use std::alloc::Global;
 use std::collections::BTreeMap;
 use std::marker::Model;
 use us_kind::{Items, Memory, Tag};
+
+/// A count is lowered only from here on, and by at most 2^62 at once, so that it stays in its type.
+const LEAST: i64 = -0x4000_0000_0000_0000;
+
+const MOST: usize = 0x4000_0000_0000_0000;
 
 fn is_zero(count: i64) -> bool
     ensures { result ≡ is_zero count }
@@ -39,8 +44,9 @@ impl Model for Marks {
 }
 
 impl Marks {
-    ghost use Rattle.std.specs.FinMap.{empty};
-    ghost use Rattle.us_sets.specs.Marks.{shifted, taken, is_live, live_tags, is_nothing};
+    ghost use Rattle.std.specs.FinMap.{empty, insert, contains_key};
+    ghost use Rattle.us_sets.specs.Room.{missing, AreMissing, AreKept, IsHigh, AreHigh, forgotten, opened, lowered, swept};
+    ghost use Rattle.us_sets.specs.Marks.{count_at, shifted, taken, is_live, live_tags, is_nothing};
 
     pub fn new(alloc: Global) -> Marks
         ensures { result ≡ empty }
@@ -96,15 +102,122 @@ impl Marks {
         Ok(())
     }
 
-    /// One less at each of the tags.
-    pub fn without(&self, tags: &[Tag]) -> Result<Marks, Memory>
-        ensures { IfOk result (λ marks. marks ≡ taken self.now tags.now) }
+    /// Adds a tag to the list, unless a count is kept at it. A count so low that it could leave its type is answered
+    /// as want of memory.
+    fn note(&self, tag: Tag, absent: &mut Items<Tag>) -> Result<(), Memory>
+        ensures noted { OnOk result (absent.new ≡ absent.old ++ missing self.now (tag ∷ [])) }
+        ensures high { OnOk result (IsHigh (count_at self.now tag)) }
     {
-        let mut marks = self.copy()?;
-        for tag in tags {
-            marks.shift(*tag, -1)?;
+        match self.counts.get(&tag) {
+            None => absent.push(tag),
+            Some(count) => {
+                if *count < LEAST {
+                    return Err(Memory);
+                }
+                Ok(())
+            }
         }
-        Ok(marks)
+    }
+
+    /// Those of the tags at which no count is kept.
+    fn absent(&self, alloc: Global, tags: &[Tag]) -> Result<Items<Tag>, Memory>
+        ensures absent { IfOk result (λ absent. absent ≡ missing self.now tags.now) }
+        ensures high { OnOk result (AreHigh self.now tags.now) }
+    {
+        let mut absent = Items::new(alloc);
+        for tag in tags {
+            self.note(*tag, &mut absent)?;
+        }
+        Ok(absent)
+    }
+
+    /// Keeps nothing at the tags.
+    fn forget(&mut self, tags: &[Tag])
+        ensures { self.new ≡ forgotten self.old tags.now }
+    {
+        for tag in tags {
+            self.counts.remove(tag);
+        }
+    }
+
+    /// Keeps a count of 0 at a tag.
+    fn place_zero(&mut self, tag: Tag) -> Result<(), Memory>
+        ensures ok { OnOk result (self.new ≡ insert self.old tag (pos 0)) }
+        ensures err { OnErr result (self.new ≡ self.old) }
+    {
+        self.counts.insert(tag, 0)?;
+        Ok(())
+    }
+
+    /// Keeps a count of 0 at tags that have none yet.
+    fn admit(&mut self, tags: &[Tag]) -> Result<(), Memory>
+        requires { AreMissing self.old tags.now }
+        ensures ok { OnOk result (self.new ≡ opened self.old tags.now) }
+        ensures err { OnErr result (self.new ≡ self.old) }
+    {
+        for tag in tags {
+            if self.place_zero(*tag).is_err() {
+                self.forget(tags);
+                return Err(Memory);
+            }
+        }
+        Ok(())
+    }
+
+    /// One less at a tag at which a count is kept, which takes no memory. The count may become 0.
+    fn lower(&mut self, tag: Tag)
+        requires kept { contains_key self.old tag ≡ true }
+        requires fits { negsuc (2 ^ 63 - 2) ≤ℤ count_at self.old tag }
+        ensures { self.new ≡ lowered self.old (tag ∷ []) }
+    {
+        if let Some(count) = self.counts.get_mut(&tag) {
+            *count -= 1;
+        }
+    }
+
+    /// One less at each of the tags, at which counts are kept. It takes no memory.
+    fn lower_each(&mut self, tags: &[Tag])
+        requires kept { AreKept self.old tags.now }
+        requires high { AreHigh self.old tags.now }
+        requires few { length tags.now ≤ 2 ^ 62 }
+        ensures { self.new ≡ lowered self.old tags.now }
+    {
+        for tag in tags {
+            self.lower(*tag);
+        }
+    }
+
+    /// Keeps no count of 0 at a tag.
+    fn sweep(&mut self, tag: Tag)
+        ensures { self.new ≡ swept self.old (tag ∷ []) }
+    {
+        if is_zero(self.counts.get(&tag).copied().unwrap_or(0)) {
+            self.counts.remove(&tag);
+        }
+    }
+
+    /// Keeps no count of 0 at the tags.
+    fn sweep_each(&mut self, tags: &[Tag])
+        ensures { self.new ≡ swept self.old tags.now }
+    {
+        for tag in tags {
+            self.sweep(*tag);
+        }
+    }
+
+    /// One less at each of the tags. What may fail comes first.
+    pub fn take(&mut self, alloc: Global, tags: &[Tag]) -> Result<(), Memory>
+        ensures ok { OnOk result (self.new ≡ taken self.old tags.now) }
+        ensures err { OnErr result (self.new ≡ self.old) }
+    {
+        if tags.len() > MOST {
+            return Err(Memory);
+        }
+        let absent = self.absent(alloc, tags)?;
+        self.admit(absent.as_slice())?;
+        self.lower_each(tags);
+        self.sweep_each(tags);
+        Ok(())
     }
 
     pub fn copy(&self) -> Result<Marks, Memory>

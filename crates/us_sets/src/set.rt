@@ -1,4 +1,6 @@
-ghost use Rattle.std.specs.Prelude.{◌≡◌, OnOk, OnErr, IfOk};
+ghost use Rattle.std.specs.Prelude.{◌≡◌, true, if◌then◌else◌, OnOk, OnErr, IfOk};
+ghost use Rattle.us_sets.specs.Marks.{moved};
+ghost use Rattle.us_sets.specs.Set.{move_of};
 
 use crate::Marks;
 use std::alloc::Global;
@@ -20,6 +22,20 @@ pub enum SetOp {
 pub enum SetEffect {
     SetAdd { value: Bytes },
     SetRemove { value: Bytes, tags: Items<Tag> },
+}
+
+impl SetEffect {
+    ghost use Rattle.us_sets.specs.Set.{element_of};
+
+    /// The element that it is about.
+    fn value(&self) -> &Bytes
+        ensures { result.now ≡ element_of self.now }
+    {
+        match self {
+            SetEffect::SetAdd { value } => value,
+            SetEffect::SetRemove { value, .. } => value,
+        }
+    }
 }
 
 /// What a set answers: `Values` are its members, ascending by bytes, each once.
@@ -48,11 +64,11 @@ impl Model for SetState {
 }
 
 impl SetState {
-    ghost use Rattle.std.specs.FinMap.{empty, entries};
-    ghost use Rattle.us_kind.specs.Defaults.{with_value};
+    ghost use Rattle.std.specs.FinMap.{empty, entries, insert, remove, contains_key};
+    ghost use Rattle.us_kind.specs.Defaults.{changed, with_value};
     ghost use Rattle.us_kind.specs.Keys.{keys_where};
-    ghost use Rattle.us_sets.specs.Marks.{is_live, is_nothing, live_tags};
-    ghost use Rattle.us_sets.specs.Set.{marks_of};
+    ghost use Rattle.us_sets.specs.Marks.{is_live, is_nothing, live_tags, moved};
+    ghost use Rattle.us_sets.specs.Set.{marks_of, element_of, move_of};
 
     pub fn new(alloc: Global) -> SetState
         ensures { result ≡ empty }
@@ -94,18 +110,8 @@ impl SetState {
         }
     }
 
-    /// A copy of the marks of a value.
-    pub fn marks(&self, alloc: Global, value: &Bytes) -> Result<Marks, Memory>
-        ensures { IfOk result (λ marks. marks ≡ marks_of self.now value.now) }
-    {
-        match self.elements.get(value) {
-            Some(marks) => marks.copy(),
-            None => Ok(Marks::new(alloc)),
-        }
-    }
-
     /// Keeps these marks of a value, and no value without marks.
-    pub fn keep(&mut self, value: &Bytes, marks: Marks) -> Result<(), Memory>
+    fn keep(&mut self, value: &Bytes, marks: Marks) -> Result<(), Memory>
         ensures ok { OnOk result (self.new ≡ with_value empty is_nothing self.old value.now marks) }
         ensures err { OnErr result (self.new ≡ self.old) }
     {
@@ -115,6 +121,68 @@ impl SetState {
             self.elements.insert(value.copy()?, marks)?;
         }
         Ok(())
+    }
+
+    /// Changes the marks of a value that has some. No other marks are looked at.
+    fn change_kept(&mut self, alloc: Global, effect: &SetEffect, tag: Tag) -> Result<(), Memory>
+        requires { contains_key self.old (element_of effect.now) ≡ true }
+        ensures ok { OnOk result (self.new ≡ insert self.old (element_of effect.now) (moved (marks_of self.old (element_of effect.now)) (move_of effect.now) tag)) }
+        ensures err { OnErr result (self.new ≡ self.old) }
+    {
+        match self.elements.get_mut(effect.value()) {
+            Some(marks) => change_marks(alloc, marks, effect, tag),
+            None => Ok(()),
+        }
+    }
+
+    /// Nothing is kept of a value.
+    fn is_bare(&self, value: &Bytes) -> bool
+        ensures { result ≡ is_nothing (marks_of self.now value.now) }
+    {
+        match self.elements.get(value) {
+            Some(marks) => marks.is_empty(),
+            None => true,
+        }
+    }
+
+    /// Keeps no value without marks.
+    fn sweep(&mut self, value: &Bytes)
+        ensures { self.new ≡ (if is_nothing (marks_of self.old value.now) then remove self.old value.now else self.old) }
+    {
+        if self.is_bare(value) {
+            self.elements.remove(value);
+        }
+    }
+
+    /// The state after an effect of the update with this tag.
+    pub fn change(&mut self, alloc: Global, effect: &SetEffect, tag: Tag) -> Result<(), Memory>
+        ensures ok { OnOk result (self.new ≡ changed empty is_nothing self.old (element_of effect.now) (λ m. moved m (move_of effect.now) tag)) }
+        ensures err { OnErr result (self.new ≡ self.old) }
+    {
+        if self.elements.contains_key(effect.value()) {
+            self.change_kept(alloc, effect, tag)?;
+            self.sweep(effect.value());
+            return Ok(());
+        }
+        let mut marks = Marks::new(alloc);
+        change_marks(alloc, &mut marks, effect, tag)?;
+        self.keep(effect.value(), marks)
+    }
+}
+
+/// What an effect does to the marks of its element.
+fn change_marks(
+    alloc: Global,
+    marks: &mut Marks,
+    effect: &SetEffect,
+    tag: Tag,
+) -> Result<(), Memory>
+    ensures ok { OnOk result (marks.new ≡ moved marks.old (move_of effect.now) tag) }
+    ensures err { OnErr result (marks.new ≡ marks.old) }
+{
+    match effect {
+        SetEffect::SetAdd { .. } => marks.shift(tag, 1),
+        SetEffect::SetRemove { tags, .. } => marks.take(alloc, tags.as_slice()),
     }
 }
 
@@ -187,17 +255,7 @@ impl Replicated for AddWinsSet {
         effect: &SetEffect,
         stamp: Stamp,
     ) -> Result<(), Memory> {
-        match effect {
-            SetEffect::SetAdd { value } => {
-                let mut marks = state.marks(alloc, value)?;
-                marks.shift(stamp.tag(), 1)?;
-                state.keep(value, marks)
-            }
-            SetEffect::SetRemove { value, tags } => {
-                let marks = state.marks(alloc, value)?.without(tags.as_slice())?;
-                state.keep(value, marks)
-            }
-        }
+        state.change(alloc, effect, stamp.tag())
     }
 
     ghost commutes = { set-commutes };

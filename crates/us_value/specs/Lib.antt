@@ -1,2 +1,5 @@
+pub mod Catalogs
 pub mod Items
+pub mod Laws
+pub mod Lengths
 pub mod Values

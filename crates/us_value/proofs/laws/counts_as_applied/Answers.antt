@@ -1,0 +1,5 @@
+use Rattle.us_value.proofs.Counted.{counts-as-applied}
+use Rattle.us_value.proofs.laws.counts_as_applied.Goals as goal
+
+pub returns : goal.returns
+returns c = counts-as-applied
