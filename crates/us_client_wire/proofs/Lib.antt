@@ -1,3 +1,7 @@
-pub mod SpelledIsRead
-pub mod ReadIsSpelled
-pub mod NoneBegins
+pub mod FieldLaws
+pub mod RequestLaws
+pub mod ReplyLaws
+pub mod Loops
+pub mod Decoded
+pub mod AnswerLengths
+pub mod ValueTests

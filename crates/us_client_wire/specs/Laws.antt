@@ -1,48 +1,26 @@
 -- What reading and spelling are to each other.
-use Rattle.std.specs.Prelude.{◌≡◌, ℕ, ◌+◌, ◌<◌, ◌≤◌, List, ◌++◌, length, take, Some, slice_index}
-use Rattle.std.specs.Int.{from_be_bytes, w32}
-use Rattle.us_value.specs.declared.item.Item.{Item}
-use Rattle.us_value.specs.declared.operation.Op.{Op}
-use Rattle.us_value.specs.declared.operation.Op.TheVariants.{RegisterRead, RegisterWrite}
-use Rattle.us_client_wire.specs.declared.frame.Request.{Request}
-use Rattle.us_client_wire.specs.declared.frame.Request.TheVariants.{Begin, Perform, CommitCausal}
-use Rattle.us_client_wire.specs.Requests.{request_of, request_spelling}
+use Rattle.us_base.specs.declared.shape.Shape.{Shape}
+use Rattle.us_base.specs.Shape.{IsShape}
+use Rattle.us_wire.specs.Readings.{Reads}
+use Rattle.us_wire.specs.Whole.{ReadsFrames}
+use Rattle.us_client_wire.specs.Fields.{item_spelling, op_spelling, answer_spelling, ItemFits, OpFits, AnswerFits}
+use Rattle.us_client_wire.specs.FieldReadings.{item_at, op_at, answer_at}
+use Rattle.us_client_wire.specs.Requests.{request_of, request_spelling, RequestFits}
+use Rattle.us_client_wire.specs.Replies.{reply_of, reply_spelling, ReplyFits}
 
--- each is a byte
-abbrev pub AreBytes : List ℕ → Type 0
-AreBytes bytes = (i : ℕ) → slice_index bytes i < 256
+-- WHAT IS READ IS SPELLED SO, WHAT IS SPELLED SO IS READ, AND NO SPELLING BEGINS ANOTHER
+abbrev pub ReadsRequests : Type 0
+ReadsRequests = (shape : Shape) → IsShape shape → ReadsFrames (RequestFits shape) (request_spelling shape) (request_of shape)
 
--- the first four bytes say how many follow
-abbrev pub IsSized : List ℕ → Type 0
-IsSized frame = 4 + from_be_bytes w32 (take 4 frame) ≡ length frame
+abbrev pub ReadsReplies : Type 0
+ReadsReplies = (shape : Shape) → IsShape shape → ReadsFrames (ReplyFits shape) (reply_spelling shape) (reply_of shape)
 
--- a value has at most 1,024 bytes
-abbrev pub OpFits : Op → Type 0
-OpFits RegisterRead = Unit {0}
-OpFits (RegisterWrite value) = length value ≤ 1024
+-- the same of fields, whatever follows
+abbrev pub ReadsItems : Type 0
+ReadsItems = Reads ItemFits item_spelling item_at
 
--- an item is of space 1, and its id has 1 to 64 bytes
-pub record ItemFits (item : Item) : Type 0 where
-  pub space : item.space ≡ 1
-  pub some : 1 ≤ length item.id
-  pub most : length item.id ≤ 64
+abbrev pub ReadsOps : Type 0
+ReadsOps = Reads OpFits op_spelling op_at
 
--- a request that has a spelling
-abbrev pub RequestFits : Request → Type 0
-RequestFits Begin = Unit {0}
-RequestFits (Perform item op) = ItemFits item × OpFits op
-RequestFits CommitCausal = Unit {0}
-
--- WHAT IS READ IS SPELLED SO, and is within its limits
-abbrev pub ReadIsSpelled : Type 0
-ReadIsSpelled = (frame : List ℕ) (request : Request) → AreBytes frame → IsSized frame → request_of frame ≡ Some request
-    → (frame ≡ request_spelling request) × RequestFits request
-
--- WHAT IS SPELLED IS READ
-abbrev pub SpelledIsRead : Type 0
-SpelledIsRead = (request : Request) → RequestFits request → request_of (request_spelling request) ≡ Some request
-
--- NO SPELLING BEGINS ANOTHER: of a stream that begins with a spelling, no other is the beginning
-abbrev pub NoneBeginsAnother : Type 0
-NoneBeginsAnother = (a b : Request) (x y : List ℕ) → RequestFits a → RequestFits b → request_spelling a ++ x ≡ request_spelling b ++ y
-    → (a ≡ b) × (x ≡ y)
+abbrev pub ReadsAnswers : Type 0
+ReadsAnswers = Reads AnswerFits answer_spelling answer_at

@@ -1,5 +1,7 @@
 pub mod Fields
+pub mod FieldReadings
 pub mod Requests
-pub mod Reading
 pub mod Replies
+pub mod Reading
 pub mod Laws
+pub mod Lengths

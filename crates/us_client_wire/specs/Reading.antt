@@ -4,7 +4,7 @@ use Rattle.us_client_wire.specs.declared.fault.DecodeFault.{DecodeFault}
 use Rattle.us_client_wire.specs.declared.fault.DecodeFault.TheVariants.{Malformed, Memory}
 
 -- it is what these bytes are, unless memory ran out
-abbrev pub Reads : {X : Type 0} → Result X DecodeFault → Option X → Type 0
-Reads (Ok x) read = read ≡ Some x
-Reads (Err Malformed) read = read ≡ None
-Reads (Err Memory) read = Unit {0}
+abbrev pub Tells : {X : Type 0} → Result X DecodeFault → Option X → Type 0
+Tells (Ok x) read = read ≡ Some x
+Tells (Err Malformed) read = read ≡ None
+Tells (Err Memory) read = Unit {0}

@@ -1,62 +1,68 @@
--- The requests that are built: begin, perform with a register's operations in space 1, commit.
-use Rattle.std.specs.Prelude.{ℕ, ◌+◌, ◌*◌, List, [], ◌∷◌, ◌++◌, length, take, drop, ◌&&◌, ◌==◌, nat_le, nat_lt, Option, Some, None, if◌then◌else◌}
-use Rattle.us_value.specs.declared.item.Item.{Item}
-use Rattle.us_value.specs.declared.operation.Op.{Op}
-use Rattle.us_value.specs.declared.operation.Op.TheVariants.{RegisterRead, RegisterWrite}
+-- Requests: how a frame spells one, and which request a frame is.
+use Rattle.std.specs.Prelude.{◌≡◌, ℕ, List, [], ◌++◌, ◌==◌, Option, None, Some, if◌then◌else◌}
+use Rattle.us_base.specs.declared.shape.Shape.{Shape}
+use Rattle.us_wire.specs.Readings.{Reading, and_then}
+use Rattle.us_wire.specs.Whole.{frame_spelling, frame_of}
+use Rattle.us_migrate.specs.Spellings.{token_spelling, TokenFits}
+use Rattle.us_migrate.specs.Readings.{token_at}
 use Rattle.us_client_wire.specs.declared.frame.Request.{Request}
-use Rattle.us_client_wire.specs.declared.frame.Request.TheVariants.{Begin, Perform, CommitCausal}
-use Rattle.us_client_wire.specs.Fields.{item_spelling, op_spelling, frame_spelling}
+use Rattle.us_client_wire.specs.declared.frame.Request.TheVariants.{Begin, Perform, CommitCausal, CommitStrong, Abandon, Barrier, AskToken, Attach}
+use Rattle.us_client_wire.specs.Fields.{item_spelling, op_spelling, ItemFits, OpFits}
+use Rattle.us_client_wire.specs.FieldReadings.{item_at, op_at}
+
+-- which request it is
+abbrev pub request_tag : Request → ℕ
+request_tag Begin = 1
+request_tag (Perform item op) = 2
+request_tag CommitCausal = 3
+request_tag CommitStrong = 4
+request_tag Abandon = 5
+request_tag Barrier = 6
+request_tag AskToken = 7
+request_tag (Attach token) = 8
+
+abbrev pub request_fields : Shape → Request → List ℕ
+request_fields shape Begin = []
+request_fields shape (Perform item op) = item_spelling item ++ op_spelling op
+request_fields shape CommitCausal = []
+request_fields shape CommitStrong = []
+request_fields shape Abandon = []
+request_fields shape Barrier = []
+request_fields shape AskToken = []
+request_fields shape (Attach token) = token_spelling shape token
 
 -- THE SPELLING OF A REQUEST
-abbrev pub request_spelling : Request → List ℕ
-request_spelling Begin = frame_spelling 1 []
-request_spelling (Perform item op) = frame_spelling 2 (item_spelling item ++ op_spelling op)
-request_spelling CommitCausal = frame_spelling 3 []
+unfoldable pub request_spelling : Shape → Request → List ℕ
+request_spelling shape request = frame_spelling (request_tag request) (request_fields shape request)
 
--- READING: the operation that these bytes are, all of them
-abbrev pub write_of : List ℕ → Option Op
-write_of (high ∷ low ∷ value) = if (high * 256 + low == length value) && nat_le (length value) 1024 then Some (RegisterWrite value) else None
-write_of (high ∷ []) = None
-write_of [] = None
+-- a request that has a spelling in a store of this shape
+abbrev pub RequestFits : Shape → Request → Type 0
+RequestFits shape Begin = Unit {0}
+RequestFits shape (Perform item op) = ItemFits item × OpFits op
+RequestFits shape CommitCausal = Unit {0}
+RequestFits shape CommitStrong = Unit {0}
+RequestFits shape Abandon = Unit {0}
+RequestFits shape Barrier = Unit {0}
+RequestFits shape AskToken = Unit {0}
+RequestFits shape (Attach token) = TokenFits shape token
 
-abbrev pub read_of : List ℕ → Option Op
-read_of [] = Some RegisterRead
-read_of (x ∷ xs) = None
+-- an item, and an operation on it
+unfoldable pub perform_at : Reading Request
+perform_at input at = and_then (item_at input at) (λ item at'. and_then (op_at input at') (λ op next. Some (Perform item op, next)))
 
-abbrev pub op_of : List ℕ → Option Op
-op_of [] = None
-op_of (code ∷ fields) = if code == 1 then read_of fields else if code == 2 then write_of fields else None
-
-abbrev pub performed_on : Item → Option Op → Option Request
-performed_on item None = None
-performed_on item (Some op) = Some (Perform item op)
-
--- an item of space 1, and an operation
-abbrev pub perform_of : List ℕ → Option Request
-perform_of (space ∷ size ∷ fields) =
-    if (space == 1) && (nat_lt 0 size && (nat_le size 64 && nat_le size (length fields)))
-    then performed_on (record { space = space; id = take size fields }) (op_of (drop size fields))
-    else None
-perform_of (space ∷ []) = None
-perform_of [] = None
-
-abbrev pub bare_of : Request → List ℕ → Option Request
-bare_of request [] = Some request
-bare_of request (x ∷ xs) = None
-
-abbrev pub tagged_of : ℕ → List ℕ → Option Request
-tagged_of tag fields =
-    if tag == 1 then bare_of Begin fields
-    else if tag == 2 then perform_of fields
-    else if tag == 3 then bare_of CommitCausal fields
+-- the fields of the request with this tag
+unfoldable pub request_fields_at : Shape → ℕ → Reading Request
+request_fields_at shape tag input at =
+    if tag == 1 then Some (Begin, at)
+    else if tag == 2 then perform_at input at
+    else if tag == 3 then Some (CommitCausal, at)
+    else if tag == 4 then Some (CommitStrong, at)
+    else if tag == 5 then Some (Abandon, at)
+    else if tag == 6 then Some (Barrier, at)
+    else if tag == 7 then Some (AskToken, at)
+    else if tag == 8 then and_then (token_at shape input at) (λ token next. Some (Attach token, next))
     else None
 
--- what follows a frame's length
-abbrev pub body_of : List ℕ → Option Request
-body_of (version ∷ tag ∷ fields) = if version == 1 then tagged_of tag fields else None
-body_of (version ∷ []) = None
-body_of [] = None
-
--- the request that a whole frame is, if it is one
-unfoldable pub request_of : List ℕ → Option Request
-request_of frame = body_of (drop 4 frame)
+-- THE REQUEST THAT A FRAME IS, if it is one
+unfoldable pub request_of : Shape → List ℕ → Option Request
+request_of shape frame = frame_of (request_fields_at shape) frame

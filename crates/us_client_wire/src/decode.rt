@@ -1,78 +1,191 @@
-ghost use Rattle.std.specs.Prelude.{◌≡◌, IfOk, IsOk, Err, None, Some};
-ghost use Rattle.us_client_wire.specs.Reading.{Reads};
-ghost use Rattle.us_client_wire.specs.Requests.{op_of, perform_of, tagged_of, body_of, request_of};
+ghost use Rattle.std.specs.Prelude.{◌≡◌, ◌⊎◌, ◌≤◌, IfOk, IsOk, Ok, Err, None, Some};
+ghost use Rattle.us_base.specs.Shape.{IsShape};
+ghost use Rattle.us_client_wire.specs.declared.frame.Request.{Request};
+ghost use Rattle.us_client_wire.specs.declared.frame.Reply.{Reply};
+ghost use Rattle.us_client_wire.specs.Reading.{Tells};
+ghost use Rattle.us_client_wire.specs.Requests.{perform_at, request_fields_at, request_of, request_spelling, RequestFits};
+ghost use Rattle.us_client_wire.specs.Replies.{aborted_at, told_at, reply_fields_at, reply_of, reply_spelling, ReplyFits};
 
-use crate::frame::{ID_LIMIT, VALUE_LIMIT, VERSION, tag};
-use crate::{DecodeFault, Request};
+use crate::fields::{take_answer, take_item, take_op};
+use crate::frame::{CAUSES, tag};
+use crate::{DecodeFault, Reply, Request};
 use std::alloc::Global;
-use us_kind::Bytes;
-use us_value::{Item, Op};
+use us_base::Shape;
+use us_migrate::{read_token, take_tid};
+use us_wire::{open_frame, take_u8_between, take_u64};
 
-/// The operation that these bytes are, all of them.
-fn op_in(alloc: Global, bytes: &[u8]) -> Result<Op, DecodeFault>
-    ensures { Reads result (op_of bytes.now) }
+/// An item and an operation on it.
+#[tactic(auto, unfolding(crate::specs::Requests::perform_at))]
+fn perform_in(alloc: Global, input: &[u8], at: usize) -> Result<(Request, usize), DecodeFault>
+    ensures { Tells result (perform_at input.now at) }
 {
-    match bytes {
-        [1] => Ok(Op::RegisterRead),
-        [2, high, low, value @ ..]
-            if usize::from(u16::from_be_bytes([*high, *low])) == value.len()
-                && value.len() <= VALUE_LIMIT => {
-            Ok(Op::RegisterWrite {
-                value: Bytes::from_slice(alloc, value)?,
-            })
-        }
-        _ => Err(DecodeFault::Malformed),
-    }
+    let (item, at) = take_item(alloc, input, at)?;
+    let (op, next) = take_op(alloc, input, at)?;
+    Ok((Request::Perform { item, op }, next))
 }
 
-/// An item of space 1 and an operation, which are all of these bytes.
-fn perform_in(alloc: Global, fields: &[u8]) -> Result<Request, DecodeFault>
-    ensures { Reads result (perform_of fields.now) }
-{
-    let [space, size, rest @ ..] = fields else {
-        return Err(DecodeFault::Malformed);
-    };
-    let size = usize::from(*size);
-    if *space != 1 || size == 0 || size > ID_LIMIT || size > rest.len() {
-        return Err(DecodeFault::Malformed);
-    }
-    let (id, op) = rest.split_at(size);
-    let op = op_in(alloc, op)?;
-    let item = Item {
-        space: *space,
-        id: Bytes::from_slice(alloc, id)?,
-    };
-    Ok(Request::Perform { item, op })
-}
-
-/// The request with this tag's number and these fields.
-fn tagged_in(alloc: Global, number: u8, fields: &[u8]) -> Result<Request, DecodeFault>
-    ensures { Reads result (tagged_of number fields.now) }
+/// The fields of the request with this tag.
+#[tactic(auto, unfolding(crate::specs::Requests::request_fields_at))]
+fn request_fields_in(
+    alloc: Global,
+    number: u8,
+    input: &[u8],
+    at: usize,
+    shape: Shape,
+) -> Result<(Request, usize), DecodeFault>
+    requires { IsShape shape }
+    ensures { Tells result (request_fields_at shape number input.now at) }
 {
     match number {
-        tag::BEGIN if fields.is_empty() => Ok(Request::Begin),
-        tag::PERFORM => perform_in(alloc, fields),
-        tag::COMMIT_CAUSAL if fields.is_empty() => Ok(Request::CommitCausal),
+        tag::BEGIN => Ok((Request::Begin, at)),
+        tag::PERFORM => perform_in(alloc, input, at),
+        tag::COMMIT_CAUSAL => Ok((Request::CommitCausal, at)),
+        tag::COMMIT_STRONG => Ok((Request::CommitStrong, at)),
+        tag::ABANDON => Ok((Request::Abandon, at)),
+        tag::BARRIER => Ok((Request::Barrier, at)),
+        tag::ASK_TOKEN => Ok((Request::AskToken, at)),
+        tag::ATTACH => match read_token(input, at, shape) {
+            Some((token, next)) => Ok((Request::Attach { token }, next)),
+            None => Err(DecodeFault::Malformed),
+        },
         _ => Err(DecodeFault::Malformed),
     }
 }
 
 /// The request that a whole frame is.
-#[tactic(auto, unfolding(crate::specs::Requests::request_of))]
-fn request_in(alloc: Global, frame: &[u8]) -> Result<Request, DecodeFault>
-    ensures { Reads result (request_of frame.now) }
+#[tactic(auto, unfolding(crate::specs::Requests::request_of, us_wire::specs::Whole::frame_of))]
+fn request_in(alloc: Global, frame: &[u8], shape: Shape) -> Result<Request, DecodeFault>
+    requires { IsShape shape }
+    ensures { Tells result (request_of shape frame.now) }
 {
-    match frame {
-        [_, _, _, _, VERSION, number, fields @ ..] => tagged_in(alloc, *number, fields),
+    let Some((number, at)) = open_frame(frame) else {
+        return Err(DecodeFault::Malformed);
+    };
+    let (request, next) = request_fields_in(alloc, number, frame, at, shape)?;
+    if next != frame.len() {
+        return Err(DecodeFault::Malformed);
+    }
+    Ok(request)
+}
+
+/// An item on which a transaction conflicts with the one that is named.
+#[tactic(auto, unfolding(crate::specs::Replies::aborted_at))]
+fn aborted_in(
+    alloc: Global,
+    at: u64,
+    input: &[u8],
+    place: usize,
+    shape: Shape,
+) -> Result<(Reply, usize), DecodeFault>
+    requires { IsShape shape }
+    ensures { Tells result (aborted_at shape at input.now place) }
+{
+    let Some((named, place)) = take_tid(input, place, shape) else {
+        return Err(DecodeFault::Malformed);
+    };
+    let (item, next) = take_item(alloc, input, place)?;
+    Ok((Reply::Aborted { at, named, item }, next))
+}
+
+/// What the reply with this tag tells of frame `at`.
+#[tactic(auto, unfolding(crate::specs::Replies::told_at))]
+fn told_in(
+    alloc: Global,
+    number: u8,
+    at: u64,
+    input: &[u8],
+    place: usize,
+    shape: Shape,
+) -> Result<(Reply, usize), DecodeFault>
+    requires { IsShape shape }
+    ensures { Tells result (told_at shape number at input.now place) }
+{
+    match number {
+        tag::STARTED => match take_tid(input, place, shape) {
+            Some((tid, next)) => Ok((Reply::Started { at, tid }, next)),
+            None => Err(DecodeFault::Malformed),
+        },
+        tag::ANSWERED => {
+            let (answer, next) = take_answer(alloc, input, place)?;
+            Ok((Reply::Answered { at, answer }, next))
+        }
+        tag::COMMITTED => match take_u64(input, place) {
+            Some((count, next)) => Ok((Reply::Committed { at, count }, next)),
+            None => Err(DecodeFault::Malformed),
+        },
+        tag::ABORTED => aborted_in(alloc, at, input, place, shape),
+        tag::DROPPED => Ok((Reply::Dropped { at }, place)),
+        tag::PASSED => Ok((Reply::Passed { at }, place)),
+        tag::TOKEN_IS => match read_token(input, place, shape) {
+            Some((token, next)) => Ok((Reply::TokenIs { at, token }, next)),
+            None => Err(DecodeFault::Malformed),
+        },
+        tag::ATTACHED => Ok((Reply::Attached { at }, place)),
+        tag::REFUSED => match take_u8_between(input, place, 1, CAUSES) {
+            Some((number, next)) => Ok((Reply::Refused { at, number }, next)),
+            None => Err(DecodeFault::Malformed),
+        },
         _ => Err(DecodeFault::Malformed),
     }
 }
 
-/// The request that a whole frame is. Its length field isn't looked at: whoever cut the frame out has read it.
-pub fn decode_request(alloc: Global, frame: &[u8]) -> Result<Request, DecodeFault>
-    ensures decoded { IfOk result (λ request. request_of frame.now ≡ Some request) }
-    ensures malformed { result ≡ Err DecodeFault.Malformed → request_of frame.now ≡ None }
-    ensures refused { request_of frame.now ≡ None → IsOk result → ⊥ }
+/// The fields of the reply with this tag.
+#[tactic(auto, unfolding(crate::specs::Replies::reply_fields_at))]
+fn reply_fields_in(
+    alloc: Global,
+    number: u8,
+    input: &[u8],
+    place: usize,
+    shape: Shape,
+) -> Result<(Reply, usize), DecodeFault>
+    requires { IsShape shape }
+    ensures { Tells result (reply_fields_at shape number input.now place) }
 {
-    request_in(alloc, frame)
+    let Some((at, place)) = take_u64(input, place) else {
+        return Err(DecodeFault::Malformed);
+    };
+    told_in(alloc, number, at, input, place, shape)
+}
+
+/// The reply that a whole frame is.
+#[tactic(auto, unfolding(crate::specs::Replies::reply_of, us_wire::specs::Whole::frame_of))]
+fn reply_in(alloc: Global, frame: &[u8], shape: Shape) -> Result<Reply, DecodeFault>
+    requires { IsShape shape }
+    ensures { Tells result (reply_of shape frame.now) }
+{
+    let Some((number, at)) = open_frame(frame) else {
+        return Err(DecodeFault::Malformed);
+    };
+    let (reply, next) = reply_fields_in(alloc, number, frame, at, shape)?;
+    if next != frame.len() {
+        return Err(DecodeFault::Malformed);
+    }
+    Ok(reply)
+}
+
+/// The request that a whole frame is in a store of this shape: Malformed exactly where the frame is no request's
+/// spelling.
+pub fn decode_request(alloc: Global, frame: &[u8], shape: Shape) -> Result<Request, DecodeFault>
+    requires { IsShape shape }
+    ensures decoded { IfOk result (λ request. request_of shape frame.now ≡ Some request) }
+    ensures malformed { result ≡ Err DecodeFault.Malformed → request_of shape frame.now ≡ None }
+    ensures refused { request_of shape frame.now ≡ None → IsOk result → ⊥ }
+    ensures is_spelling { IfOk result (λ request. (frame.now ≡ request_spelling shape request) × RequestFits shape request) }
+    ensures no_spelling { result ≡ Err DecodeFault.Malformed → (request : Request) → RequestFits shape request → frame.now ≡ request_spelling shape request → ⊥ }
+    ensures spelling_is_read { (request : Request) → RequestFits shape request → frame.now ≡ request_spelling shape request → (result ≡ Ok request) ⊎ (result ≡ Err DecodeFault.Memory) }
+{
+    request_in(alloc, frame, shape)
+}
+
+/// The reply that a whole frame is in a store of this shape: Malformed exactly where the frame is no reply's spelling.
+pub fn decode_reply(alloc: Global, frame: &[u8], shape: Shape) -> Result<Reply, DecodeFault>
+    requires { IsShape shape }
+    ensures decoded { IfOk result (λ reply. reply_of shape frame.now ≡ Some reply) }
+    ensures malformed { result ≡ Err DecodeFault.Malformed → reply_of shape frame.now ≡ None }
+    ensures refused { reply_of shape frame.now ≡ None → IsOk result → ⊥ }
+    ensures is_spelling { IfOk result (λ reply. (frame.now ≡ reply_spelling shape reply) × ReplyFits shape reply) }
+    ensures no_spelling { result ≡ Err DecodeFault.Malformed → (reply : Reply) → ReplyFits shape reply → frame.now ≡ reply_spelling shape reply → ⊥ }
+    ensures spelling_is_read { (reply : Reply) → ReplyFits shape reply → frame.now ≡ reply_spelling shape reply → (result ≡ Ok reply) ⊎ (result ≡ Err DecodeFault.Memory) }
+{
+    reply_in(alloc, frame, shape)
 }

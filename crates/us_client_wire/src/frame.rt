@@ -1,4 +1,5 @@
 use us_kind::Tid;
+use us_migrate::Token;
 use us_value::{Answer, Item, Op};
 
 /// What a client asks of its session.
@@ -7,27 +8,39 @@ pub enum Request {
     Begin,
     Perform { item: Item, op: Op },
     CommitCausal,
+    CommitStrong,
+    Abandon,
+    Barrier,
+    AskToken,
+    Attach { token: Token },
 }
 
-/// What a session tells its client. `at` is the number of the session's frame that is answered, from 1.
+/// What a session tells its client. `at` is the number of the session's frame that is answered, from 1; it is 0 for a
+/// refused open.
 #[derive(Debug, PartialEq, Eq, Drop)]
 pub enum Reply {
     Started { at: u64, tid: Tid },
     Answered { at: u64, answer: Answer },
     /// `count` counts the session's committed transactions.
     Committed { at: u64, count: u64 },
-    /// `number` says why, as docs/PROTOCOL.md lists it.
+    /// `named` is the transaction that conflicts, on `item`.
+    Aborted { at: u64, named: Tid, item: Item },
+    Dropped { at: u64 },
+    Passed { at: u64 },
+    TokenIs { at: u64, token: Token },
+    Attached { at: u64 },
+    /// `number` says why, from 1 to 11, as docs/PROTOCOL.md lists it.
     Refused { at: u64, number: u8 },
 }
 
 /// The version that each frame names.
 pub(crate) const VERSION: u8 = 1;
 
-/// The greatest length of a value, in bytes.
-pub(crate) const VALUE_LIMIT: usize = 1024;
+/// The greatest number of a refusal.
+pub(crate) const CAUSES: u8 = 11;
 
 /// The greatest length of an item's id, in bytes.
-pub(crate) const ID_LIMIT: usize = 64;
+pub(crate) const ID_LIMIT: u8 = 64;
 
 /// The tags of requests and replies.
 pub(crate) mod tag {
@@ -37,11 +50,75 @@ pub(crate) mod tag {
 
     pub(crate) const COMMIT_CAUSAL: u8 = 3;
 
+    pub(crate) const COMMIT_STRONG: u8 = 4;
+
+    pub(crate) const ABANDON: u8 = 5;
+
+    pub(crate) const BARRIER: u8 = 6;
+
+    pub(crate) const ASK_TOKEN: u8 = 7;
+
+    pub(crate) const ATTACH: u8 = 8;
+
     pub(crate) const STARTED: u8 = 129;
 
     pub(crate) const ANSWERED: u8 = 130;
 
     pub(crate) const COMMITTED: u8 = 131;
 
+    pub(crate) const ABORTED: u8 = 132;
+
+    pub(crate) const DROPPED: u8 = 133;
+
+    pub(crate) const PASSED: u8 = 134;
+
+    pub(crate) const TOKEN_IS: u8 = 135;
+
+    pub(crate) const ATTACHED: u8 = 136;
+
     pub(crate) const REFUSED: u8 = 137;
+}
+
+/// The codes of operations.
+pub(crate) mod op_code {
+    pub(crate) const REGISTER_READ: u8 = 1;
+
+    pub(crate) const REGISTER_WRITE: u8 = 2;
+
+    pub(crate) const COUNTER_READ: u8 = 3;
+
+    pub(crate) const COUNTER_ADD: u8 = 4;
+
+    pub(crate) const SET_MEMBERS: u8 = 5;
+
+    pub(crate) const SET_CONTAINS: u8 = 6;
+
+    pub(crate) const SET_ADD: u8 = 7;
+
+    pub(crate) const SET_REMOVE: u8 = 8;
+
+    pub(crate) const FLAG_READ: u8 = 9;
+
+    pub(crate) const FLAG_ENABLE: u8 = 10;
+
+    pub(crate) const FLAG_DISABLE: u8 = 11;
+
+    pub(crate) const MULTI_READ: u8 = 12;
+
+    pub(crate) const MULTI_WRITE: u8 = 13;
+}
+
+/// The codes of answers.
+pub(crate) mod answer_code {
+    pub(crate) const DONE: u8 = 0;
+
+    pub(crate) const NOTHING: u8 = 1;
+
+    pub(crate) const VALUE: u8 = 2;
+
+    pub(crate) const NUMBER: u8 = 3;
+
+    pub(crate) const VALUES: u8 = 4;
+
+    pub(crate) const BIT: u8 = 5;
 }

@@ -9,11 +9,12 @@ use Rattle.us_config.specs.declared.fault.Key.TheVariants.{Top}
 use Rattle.us_config.specs.declared.fault.ConfigFault.TheVariants.{NotToml}
 use Rattle.us_config.specs.declared.fault.ReadFault.TheVariants as read
 use Rattle.us_config.specs.Document.{or_not_toml}
+use Rattle.us_config.specs.Meaning.{document_of}
 
-pub is_document : (text : List ℕ) (ms : Members) → IsUtf8 text → parse_document text ≡ Some ms → or_not_toml (cond (is_utf8 text) (parse_document text) None) ≡ Ok ms
+pub is_document : (text : List ℕ) (ms : Members) → IsUtf8 text → parse_document text ≡ Some ms → or_not_toml (document_of text) ≡ Ok ms
 is_document text ms utf8 is = let e = is_utf8-from_IsUtf8 text utf8 in rw (e, is) refl
 
-pub no_document : (text : List ℕ) → (IsUtf8 text → parse_document text ≡ None) → or_not_toml (cond (is_utf8 text) (parse_document text) None) ≡ Err (read.Refused Top NotToml)
+pub no_document : (text : List ℕ) → (IsUtf8 text → parse_document text ≡ None) → or_not_toml (document_of text) ≡ Err (read.Refused Top NotToml)
 no_document text none =
     elim (cases_Bool (is_utf8 text)) [
       | inl e ↦ let f = none (IsUtf8-from_is_utf8 text e) in rw (e, f) refl

@@ -7,7 +7,7 @@ use Rattle.std.specs.declared.alloc.Global.{Global}
 use Rattle.std.specs.Map.{keys_of as map_keys}
 use Rattle.toml.specs.View.{members_view}
 use Rattle.toml.specs.declared.value.Value.{Value}
-use Rattle.us_config.specs.Values.{has_only}
+use Rattle.us_config.specs.Checks.{has_only}
 use denote.Ref.{Bor}
 
 any_map : (key : List ℕ) (names : List (Bor (List ℕ))) → list_any (λ name. bytes_eq key name.now) names ≡ list_any (λ name. bytes_eq key name) (map (λ (name : Bor (List ℕ)). name.now) names)

@@ -1,29 +1,27 @@
--- The table that a configuration's text is.
-use Rattle.std.specs.Prelude.{ℕ, if◌then◌else◌, List, [], ◌∷◌, codes, Option, Some, None, Result, Ok, Err}
-use Rattle.std.specs.Str.{is_utf8}
-use Rattle.toml.specs.Data.{Members}
-use Rattle.toml.specs.Parse.{parse_document}
+-- How a configuration's text is read.
+use Rattle.std.specs.Prelude.{ℕ, codes, List, Option, Some, None, Result, Ok, Err}
+use Rattle.toml.specs.Data.{Members, get_member}
+use Rattle.us_base.specs.Shape.{sites_of}
 use Rattle.us_config.specs.declared.fault.Key.TheVariants.{Top}
 use Rattle.us_config.specs.declared.fault.ConfigFault.TheVariants.{NotToml}
 use Rattle.us_config.specs.declared.fault.ReadFault.{ReadFault}
 use Rattle.us_config.specs.declared.fault.ReadFault.TheVariants as read
+use Rattle.us_config.specs.declared.config.Config.{Config}
+use Rattle.us_config.specs.Assembly.{assembled}
+use Rattle.us_config.specs.Meaning.{top_names}
 use Rattle.us_config.specs.Values.{◌>>=◌, only}
+use Rattle.us_config.specs.Shape.{shape_in}
+use Rattle.us_config.specs.Spaces.{spaces_said}
+use Rattle.us_config.specs.Node.{node_plan_of}
 
 abbrev pub or_not_toml : Option Members → Result Members ReadFault
 or_not_toml None = Err (read.Refused Top NotToml)
 or_not_toml (Some ms) = Ok ms
 
--- the names of a configuration's keys
-abbrev pub top_names : List (List ℕ)
-top_names = codes "sites" ∷ codes "partitions" ∷ codes "space" ∷ codes "node" ∷ []
-
-abbrev pub known_keys : Members → Result Members ReadFault
-known_keys ms = do
+unfoldable pub config_in : Members → Result Config ReadFault
+config_in ms = do
   known ← only Top top_names ms
-  Ok ms
-
--- the table of a text, which has no unknown key
-abbrev pub table_of : List ℕ → Result Members ReadFault
-table_of text = do
-  ms ← or_not_toml (if is_utf8 text then parse_document text else None)
-  known_keys ms
+  shape ← shape_in ms
+  spaces ← spaces_said (get_member (codes "space") ms)
+  plan ← node_plan_of (sites_of shape) (get_member (codes "node") ms)
+  Ok (assembled shape spaces plan)

@@ -1,6 +1,14 @@
 pub mod Fault
 pub mod Address
+pub mod Words
+pub mod Checks
+pub mod Meaning
 pub mod Values
 pub mod Document
 pub mod Shape
+pub mod Spaces
 pub mod Node
+pub mod Whole
+pub mod Configs
+pub mod Assembly
+pub mod Rows

@@ -1,32 +1,14 @@
--- What a node's table says.
-use Rattle.std.specs.Prelude.{ℕ, zero, suc, ◌+◌, ◌==◌, if◌then◌else◌, List, [], ◌∷◌, ◌++◌, length, codes, Option, Some, None, Result, Ok, Err}
-use Rattle.std.specs.Fmt.{decimal}
-use Rattle.toml.specs.Data.{Data, Items, no_items, item, Members, no_members, as_str, as_array, as_table, get_member}
+-- How a node's table is read.
+use Rattle.std.specs.Prelude.{ℕ, ◌==◌, if◌then◌else◌, List, [], length, codes, Option, Some, None, Result, Ok, Err}
+use Rattle.toml.specs.Data.{Data, Items, Members, no_members, as_array, as_table, get_member}
 use Rattle.us_config.specs.declared.fault.Key.{Key}
 use Rattle.us_config.specs.declared.fault.Key.TheVariants.{Node, NodePeers, NodeClients, NodeTick, NodeSuspect}
 use Rattle.us_config.specs.declared.fault.ConfigFault.TheVariants.{WrongValue}
 use Rattle.us_config.specs.declared.fault.ReadFault.{ReadFault}
 use Rattle.us_config.specs.declared.fault.ReadFault.TheVariants as read
 use Rattle.us_config.specs.declared.node.NodePlan.{NodePlan}
-use Rattle.us_config.specs.Address.{is_address_text}
-use Rattle.us_config.specs.Values.{◌>>=◌, only, whole_or}
-
--- the default addresses of so many sites, the first of them with the port after this one
-abbrev pub default_addresses : ℕ → ℕ → List (List ℕ)
-default_addresses port zero = []
-default_addresses port (suc sites) = (codes "127.0.0.1:" ++ decimal (port + 1)) ∷ default_addresses (port + 1) sites
-
-abbrev pub address_in : Key → Option (List ℕ) → Result (List ℕ) ReadFault
-address_in key None = Err (read.Refused key WrongValue)
-address_in key (Some text) = if is_address_text text then Ok text else Err (read.Refused key WrongValue)
-
--- each item is an address
-abbrev pub addresses_of : Key → Items → Result (List (List ℕ)) ReadFault
-addresses_of key no_items = Ok []
-addresses_of key (item d ds) = do
-  first ← address_in key (as_str d)
-  others ← addresses_of key ds
-  Ok (first ∷ others)
+use Rattle.us_config.specs.Meaning.{default_addresses, address_for, node_names}
+use Rattle.us_config.specs.Values.{◌>>=◌, only, whole_or, gathered, each_by}
 
 abbrev pub one_a_site : Key → ℕ → List (List ℕ) → Result (List (List ℕ)) ReadFault
 one_a_site key sites addresses = if length addresses == sites then Ok addresses else Err (read.Refused key WrongValue)
@@ -34,17 +16,13 @@ one_a_site key sites addresses = if length addresses == sites then Ok addresses 
 abbrev pub listed : Key → ℕ → Option Items → Result (List (List ℕ)) ReadFault
 listed key sites None = Err (read.Refused key WrongValue)
 listed key sites (Some items) = do
-  addresses ← addresses_of key items
+  addresses ← gathered (each_by key address_for) [] items
   one_a_site key sites addresses
 
 -- an address for each site
 abbrev pub addresses_or : Key → ℕ → ℕ → Option Data → Result (List (List ℕ)) ReadFault
 addresses_or key port sites None = Ok (default_addresses port sites)
 addresses_or key port sites (Some d) = listed key sites (as_array d)
-
--- the names of a node's keys
-abbrev pub node_names : List (List ℕ)
-node_names = codes "peers" ∷ codes "clients" ∷ codes "tick" ∷ codes "suspect" ∷ []
 
 unfoldable pub plan_in : ℕ → Members → Result NodePlan ReadFault
 plan_in sites ms = do

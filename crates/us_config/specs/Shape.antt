@@ -1,4 +1,4 @@
--- How many sites and partitions a configuration says.
+-- How the numbers of sites and partitions are read.
 use Rattle.std.specs.Prelude.{ℕ, ◌/◌, ◌%◌, ◌==◌, if◌then◌else◌, codes, Result, Ok, Err}
 use Rattle.toml.specs.Data.{Members, get_member}
 use Rattle.us_base.specs.declared.shape.Shape.{Shape}
@@ -8,11 +8,10 @@ use Rattle.us_config.specs.declared.fault.ReadFault.{ReadFault}
 use Rattle.us_config.specs.declared.fault.ReadFault.TheVariants as read
 use Rattle.us_config.specs.Values.{◌>>=◌, whole_or}
 
--- an odd number of sites leaves a majority when the lesser part is lost
+-- how many sites may be lost
 abbrev pub lost_of : ℕ → Result ℕ ReadFault
 lost_of sites = if sites % 2 == 1 then Ok (sites / 2) else Err (read.Refused Sites OutOfLimit)
 
--- 1, 3, 5 or 7 sites, and 1 to 16 partitions
 abbrev pub shape_in : Members → Result Shape ReadFault
 shape_in ms = do
   sites ← whole_or Sites 1 7 1 (get_member (codes "sites") ms)

@@ -1,8 +1,7 @@
--- The values of a configuration's keys, each with the fault where it is none.
-use Rattle.std.specs.Prelude.{◌≡◌, ℕ, ℤ, pos, negsuc, nat_le, ◌&&◌, Bool, if◌then◌else◌, List, [], ◌∷◌, Option, Some, None, Result, Ok, Err}
-use Rattle.std.specs.List.{list_any, list_all}
-use Rattle.std.specs.Str.{bytes_eq}
-use Rattle.toml.specs.Data.{Data, Members, no_members, member, as_integer}
+-- How the values of a configuration's keys are read one after the other, each with the fault where it is none.
+use Rattle.std.specs.Prelude.{◌≡◌, ℕ, ℤ, pos, negsuc, nat_le, ◌&&◌, if◌then◌else◌, List, [], ◌∷◌, ◌++◌, Option, Some, None, Result, Ok, Err}
+use Rattle.toml.specs.Data.{Data, Items, no_items, item, Members, as_integer}
+use Rattle.us_config.specs.Checks.{has_only}
 use Rattle.us_config.specs.declared.fault.Key.{Key}
 use Rattle.us_config.specs.declared.fault.ConfigFault.TheVariants.{WrongKey, WrongValue, OutOfLimit}
 use Rattle.us_config.specs.declared.fault.ReadFault.{ReadFault}
@@ -13,15 +12,7 @@ abbrev pub ◌>>=◌ : {A B : Type 0} → Result A ReadFault → (A → Result B
 (Ok x) >>= f = f x
 (Err e) >>= f = Err e
 
--- the keys of a table
-abbrev pub keys_of : Members → List (List ℕ)
-keys_of no_members = []
-keys_of (member key d ms) = key ∷ keys_of ms
-
 -- the table has no other keys than these
-abbrev pub has_only : List (List ℕ) → Members → Bool
-has_only names ms = list_all (λ key. list_any (λ name. bytes_eq key name) names) (keys_of ms)
-
 abbrev pub only : Key → List (List ℕ) → Members → Result (Unit {0}) ReadFault
 only key names ms = if has_only names ms then Ok tt else Err (read.Refused key WrongKey)
 
@@ -35,6 +26,19 @@ whole_of key low high (Some (negsuc n)) = Err (read.Refused key OutOfLimit)
 abbrev pub whole_or : Key → ℕ → ℕ → ℕ → Option Data → Result ℕ ReadFault
 whole_or key low high default None = Ok default
 whole_or key low high default (Some d) = whole_of key low high (as_integer d)
+
+abbrev pub or_wrong : {A : Type 0} → Key → Option A → Result A ReadFault
+or_wrong key None = Err (read.Refused key WrongValue)
+or_wrong key (Some x) = Ok x
+
+-- what the items say one after the other, behind what was read before them
+abbrev pub gathered : {A : Type 0} → (List A → Data → Result A ReadFault) → List A → Items → Result (List A) ReadFault
+gathered step front no_items = Ok front
+gathered step front (item d ds) = step front d >>= λ x. gathered step (front ++ x ∷ []) ds
+
+-- the same where no item is read by what stands before it
+abbrev pub each_by : {A : Type 0} → Key → (Data → Option A) → List A → Data → Result A ReadFault
+each_by key part front d = or_wrong key (part d)
 
 -- what a step of reading returned is what the values say, unless memory ran out
 abbrev pub FailsAs : {A : Type 0} → ReadFault → Result A ReadFault → Type 0

@@ -1,9 +1,10 @@
-ghost use Rattle.std.specs.Prelude.{◌≡◌, Some};
+ghost use Rattle.std.specs.Prelude.{◌≡◌};
+ghost use Rattle.us_config.specs.Fault.{key_text, fault_text};
 ghost use Rattle.us_config.specs.declared.fault.ReadFault.TheVariants.{Memory};
 
 use std::alloc::AllocError;
-use std::error::Error;
 use std::fmt;
+use thiserror::Error;
 
 /// A key of the configuration, or `Top` for the text as a whole.
 #[derive(Clone, Copy, Debug, PartialEq, Eq, Hash)]
@@ -22,13 +23,12 @@ pub enum Key {
     NodeSuspect,
 }
 
-impl fmt::Display for Key {
-    ghost use Rattle.us_config.specs.Fault.{key_text};
-
-    ghost output = { λ key. Some (key_text key) };
-
-    fn fmt<W: fmt::Write>(&self, f: &mut fmt::Formatter<W>) -> fmt::Result {
-        f.write_str(match self {
+impl Key {
+    /// The key as it is printed, such as `top` and `space.number`.
+    pub fn name(&self) -> &'static str
+        ensures { result.now ≡ key_text self.now }
+    {
+        match self {
             Key::Top => "top",
             Key::Sites => "sites",
             Key::Partitions => "partitions",
@@ -41,59 +41,73 @@ impl fmt::Display for Key {
             Key::NodeClients => "node.clients",
             Key::NodeTick => "node.tick",
             Key::NodeSuspect => "node.suspect",
-        })
-    }
-}
-
-/// What is wrong at a key.
-#[derive(Clone, Copy, Debug, PartialEq, Eq, Hash)]
-pub enum ConfigFault {
-    /// The text is no TOML.
-    NotToml,
-    /// A table has a key that is none of its own.
-    WrongKey,
-    /// Another TOML type, an unknown word, a list of another length, or no value where one is needed.
-    WrongValue,
-    /// A whole number outside its range.
-    OutOfLimit,
-}
-
-impl fmt::Display for ConfigFault {
-    ghost use Rattle.us_config.specs.Fault.{fault_text};
-
-    ghost output = { λ fault. Some (fault_text fault) };
-
-    fn fmt<W: fmt::Write>(&self, f: &mut fmt::Formatter<W>) -> fmt::Result {
-        f.write_str(match self {
-            ConfigFault::NotToml => "NotToml",
-            ConfigFault::WrongKey => "WrongKey",
-            ConfigFault::WrongValue => "WrongValue",
-            ConfigFault::OutOfLimit => "OutOfLimit",
-        })
-    }
-}
-
-impl Error for ConfigFault {}
-
-/// Why a configuration is not read.
-#[derive(Clone, Copy, Debug, PartialEq, Eq, Hash)]
-pub enum ReadFault {
-    /// An allocation failed.
-    Memory,
-    /// The first check that fails.
-    Refused { key: Key, fault: ConfigFault },
-}
-
-impl fmt::Display for ReadFault {
-    fn fmt<W: fmt::Write>(&self, f: &mut fmt::Formatter<W>) -> fmt::Result {
-        match self {
-            ReadFault::Memory => f.write_str("out of memory"),
-            ReadFault::Refused { key, fault } => write!(f, "{key} {fault}"),
         }
     }
 }
 
-impl Error for ReadFault {}
+impl fmt::Display for Key {
+    ghost use Rattle.std.specs.Prelude.{Some};
+    ghost use Rattle.us_config.specs.Fault.{key_text};
+
+    ghost output = { λ key. Some (key_text key) };
+
+    fn fmt<W: fmt::Write>(&self, f: &mut fmt::Formatter<W>) -> fmt::Result {
+        f.write_str(self.name())
+    }
+}
+
+/// What is wrong at a key.
+#[derive(Clone, Copy, Debug, PartialEq, Eq, Hash, Error)]
+pub enum ConfigFault {
+    /// The text is no TOML.
+    #[error("NotToml")]
+    NotToml,
+    /// A table has a key that is none of its own.
+    #[error("WrongKey")]
+    WrongKey,
+    /// Another TOML type, no value where one is needed, an unknown word, a class that the kind lacks, a space's number
+    /// for the second time, a list of another length, or no address.
+    #[error("WrongValue")]
+    WrongValue,
+    /// A whole number outside its range.
+    #[error("OutOfLimit")]
+    OutOfLimit,
+}
+
+impl ConfigFault {
+    /// The fault as it is printed.
+    pub fn name(&self) -> &'static str
+        ensures { result.now ≡ fault_text self.now }
+    {
+        match self {
+            ConfigFault::NotToml => "NotToml",
+            ConfigFault::WrongKey => "WrongKey",
+            ConfigFault::WrongValue => "WrongValue",
+            ConfigFault::OutOfLimit => "OutOfLimit",
+        }
+    }
+}
+
+/// Why a configuration is not read.
+#[derive(Clone, Copy, Debug, PartialEq, Eq, Hash, Error)]
+pub enum ReadFault {
+    /// An allocation failed.
+    #[error("out of memory")]
+    Memory,
+    /// The first check that fails.
+    #[error("{key} {fault}")]
+    Refused { key: Key, fault: ConfigFault },
+}
+
+/// A value that is none for its key.
+pub fn wrong_value(key: Key) -> ReadFault
+    ensures { result ≡ ReadFault.Refused key ConfigFault.WrongValue }
+{
+    ReadFault::Refused {
+        key,
+        fault: ConfigFault::WrongValue,
+    }
+}
 
 impl From<us_kind::Memory> for ReadFault {
     ghost from_gives = { λ _ e. e ≡ Memory };

@@ -2,18 +2,23 @@
 #![tactic(auto)]
 
 mod address;
+mod assembly;
+mod config;
 mod document;
 mod fault;
+mod laws;
 mod node;
 mod shape;
+mod space;
 mod tables;
 mod values;
+mod words;
 
 pub use address::is_address;
-pub use document::read_table;
+pub use config::{Config, read};
 pub use fault::{ConfigFault, Key, ReadFault};
-pub use node::{NodePlan, node_plan};
-pub use shape::shape_of;
+pub use laws::worked_configurations;
+pub use node::NodePlan;
 
 #[cfg(test)]
 mod tests;

@@ -1,11 +1,12 @@
-ghost use Rattle.std.specs.Prelude.{◌≡◌, ◌+◌, ◌^◌, ◌<◌, ◌≤◌, option_map, IfOk, Ok, Err};
+ghost use Rattle.std.specs.Prelude.{◌≡◌, ◌+◌, ◌^◌, ◌<◌, ◌≤◌, [], length, option_map, IfOk};
 ghost use Rattle.toml.specs.View.{view, table_view, array_view};
-ghost use Rattle.toml.specs.Data.{as_str};
-ghost use Rattle.us_config.specs.Values.{Says};
-ghost use Rattle.us_config.specs.Node.{default_addresses, address_in, addresses_of, addresses_or, plan_in, node_plan_of};
+ghost use Rattle.us_config.specs.Values.{Says, or_wrong, gathered, each_by};
+ghost use Rattle.us_config.specs.Configs.{HasAddresses};
+ghost use Rattle.us_config.specs.Meaning.{default_addresses, address_for};
+ghost use Rattle.us_config.specs.Node.{addresses_or, plan_in, node_plan_of};
 
 use crate::address::is_address;
-use crate::fault::{ConfigFault, Key, ReadFault};
+use crate::fault::{Key, ReadFault, wrong_value};
 use crate::tables::{check_keys, member_at};
 use crate::values::{Range, whole_number};
 use std::alloc::Global;
@@ -27,6 +28,31 @@ pub struct NodePlan {
     pub suspect: u64,
 }
 
+impl NodePlan {
+    /// A copy of the plan.
+    pub fn copy(&self, alloc: Global) -> Result<NodePlan, Memory>
+        ensures { IfOk result (λ copy. copy ≡ self.now) }
+    {
+        Ok(NodePlan {
+            peers: copy_of_texts(alloc, self.peers.as_slice())?,
+            clients: copy_of_texts(alloc, self.clients.as_slice())?,
+            tick: self.tick,
+            suspect: self.suspect,
+        })
+    }
+}
+
+/// A copy of the texts.
+pub fn copy_of_texts(alloc: Global, texts: &[Text]) -> Result<Items<Text>, Memory>
+    ensures { IfOk result (λ copy. copy ≡ texts.now) }
+{
+    let mut copy = Items::new(alloc);
+    for text in texts {
+        copy.push(text.copy()?)?;
+    }
+    Ok(copy)
+}
+
 /// The port before the first site's for other sites, where the configuration names no addresses.
 const PEER_PORT: u16 = 7100;
 
@@ -46,7 +72,8 @@ const UNITS: Range = Range {
 /// The first of: the value no table; another key; `peers`, `clients`, `tick`, `suspect`; or `Memory`.
 pub fn node_plan(alloc: Global, sites: u8, value: Option<&Value>) -> Result<NodePlan, ReadFault>
     requires { sites ≤ 9 }
-    ensures { Says result (node_plan_of sites (option_map (λ value. view value.now) value.entry)) }
+    ensures exact { Says result (node_plan_of sites (option_map (λ value. view value.now) value.entry)) }
+    ensures addresses { IfOk result (λ plan. HasAddresses sites plan) }
 {
     let Some(value) = value else {
         return plan_of(alloc, sites, &Table::new(alloc));
@@ -60,7 +87,8 @@ pub fn node_plan(alloc: Global, sites: u8, value: Option<&Value>) -> Result<Node
 #[tactic(auto, unfolding(crate::specs::Node::plan_in))]
 fn plan_of(alloc: Global, sites: u8, table: &Table) -> Result<NodePlan, ReadFault>
     requires { sites ≤ 9 }
-    ensures { Says result (plan_in sites (table_view table.now)) }
+    ensures exact { Says result (plan_in sites (table_view table.now)) }
+    ensures addresses { IfOk result (λ plan. HasAddresses sites plan) }
 {
     check_keys(Key::Node, &["peers", "clients", "tick", "suspect"], table)?;
     let peers = member_at(table, "peers");
@@ -77,6 +105,7 @@ fn plan_of(alloc: Global, sites: u8, table: &Table) -> Result<NodePlan, ReadFaul
     })
 }
 
+#[tactic(auto, using(crate::proofs::Lists::default_count))]
 fn addresses(
     alloc: Global,
     key: Key,
@@ -85,7 +114,8 @@ fn addresses(
     value: Option<&Value>,
 ) -> Result<Items<Text>, ReadFault>
     requires { port + sites < 2 ^ 16 }
-    ensures { Says result (addresses_or key port sites (option_map (λ value. view value.now) value.entry)) }
+    ensures exact { Says result (addresses_or key port sites (option_map (λ value. view value.now) value.entry)) }
+    ensures count { IfOk result (λ addresses. length addresses ≡ sites) }
 {
     let Some(value) = value else {
         return Ok(local_addresses(alloc, port, sites)?);
@@ -98,15 +128,6 @@ fn addresses(
         return Err(wrong_value(key));
     }
     Ok(addresses)
-}
-
-fn wrong_value(key: Key) -> ReadFault
-    ensures { result ≡ ReadFault.Refused key ConfigFault.WrongValue }
-{
-    ReadFault::Refused {
-        key,
-        fault: ConfigFault::WrongValue,
-    }
 }
 
 fn local_addresses(alloc: Global, port: u16, sites: u8) -> Result<Items<Text>, Memory>
@@ -122,7 +143,7 @@ fn local_addresses(alloc: Global, port: u16, sites: u8) -> Result<Items<Text>, M
 }
 
 fn listed_addresses(alloc: Global, key: Key, array: &Array) -> Result<Items<Text>, ReadFault>
-    ensures { Says result (addresses_of key (array_view array.now)) }
+    ensures { Says result (gathered (each_by key address_for) [] (array_view array.now)) }
 {
     let mut addresses = Items::new(alloc);
     for value in array {
@@ -132,7 +153,7 @@ fn listed_addresses(alloc: Global, key: Key, array: &Array) -> Result<Items<Text
 }
 
 fn address_of(alloc: Global, key: Key, value: &Value) -> Result<Text, ReadFault>
-    ensures { Says result (address_in key (as_str (view value.now))) }
+    ensures { Says result (or_wrong key (address_for (view value.now))) }
 {
     match value.as_str() {
         Some(text) if is_address(text) => Ok(Text::of(String::from_str(alloc, text)?)),

@@ -4,7 +4,7 @@ ghost use Rattle.std.specs.List.{list_any, list_all};
 ghost use Rattle.std.specs.Str.{bytes_eq};
 ghost use Rattle.toml.specs.Data.{get_member};
 ghost use Rattle.toml.specs.View.{view, table_view};
-ghost use Rattle.us_config.specs.Values.{keys_of, has_only, only};
+ghost use Rattle.us_config.specs.Values.{only};
 
 use crate::fault::{ConfigFault, Key, ReadFault};
 use toml::{Table, Value};

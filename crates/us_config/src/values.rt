@@ -31,7 +31,8 @@ pub fn whole_number(
     }
 }
 
-fn whole_in(key: Key, range: Range, number: Option<i64>) -> Result<u64, ReadFault>
+/// The whole number in its range.
+pub fn whole_in(key: Key, range: Range, number: Option<i64>) -> Result<u64, ReadFault>
     ensures exact { result ≡ whole_of key range.low range.high number }
     ensures within { IfOk result (λ n. (range.low ≤ n) × (n ≤ range.high)) }
 {

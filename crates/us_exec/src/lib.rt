@@ -1,7 +1,9 @@
 //! What a user gets: an execution of transactions, and what it means that it is consistent.
 #![tactic(auto)]
 
-ghost use Rattle.std.specs.Prelude.{◌≡◌, IfOk};
+ghost use Rattle.std.specs.Prelude.{◌≡◌, ◌<◌, IfOk, Some, length, slice_get};
+ghost use Rattle.us_exec.specs.declared.Entry.{Entry};
+ghost use Rattle.us_exec.specs.Past.{count_in, is_before};
 
 use us_kind::{Items, Memory, Tid};
 use us_value::{Answer, Item, Op};
@@ -87,11 +89,80 @@ pub struct Execution {
     pub links: Items<Link>,
 }
 
+/// How many transactions of a session a past counts.
+fn count_in(session: &SessionName, past: &[Count]) -> u64
+    ensures { result ≡ count_in session.now past.now }
+{
+    for count in past {
+        if count.session == *session {
+            return count.count;
+        }
+    }
+    0
+}
+
+impl Execution {
+    /// Whether one transaction is before another, by their places in `entries`, from 0.
+    pub fn before(&self, one: usize, other: usize) -> bool
+        requires one { one < length self.now.entries }
+        requires other { other < length self.now.entries }
+        ensures { (d e : Entry) → slice_get self.now.entries one ≡ Some d → slice_get self.now.entries other ≡ Some e → result ≡ is_before d e.past }
+    {
+        let entries = self.entries.as_slice();
+        let one = &entries[one];
+        let past = entries[other].past.as_slice();
+        one.number <= count_in(&one.session, past)
+    }
+}
+
 #[cfg(test)]
 mod tests {
     use super::*;
+    use std::alloc::Global;
     use std::test::Fail;
     use us_kind::Bytes;
+
+    fn entry(alloc: Global, number: u64, past: &[Count]) -> Result<Entry, Memory> {
+        let session = SessionName {
+            site: 1,
+            coord: 1,
+            number: 1,
+        };
+        Ok(Entry {
+            tid: Tid {
+                site: 1,
+                coord: 1,
+                seq: number,
+            },
+            session,
+            number,
+            strong: false,
+            ops: Items::new(alloc),
+            past: Items::of(Vec::from_slice(alloc, past)?),
+        })
+    }
+
+    #[test]
+    fn a_past_counts_the_first_of_a_session(rt: HostRuntime) -> Result<(), Fail> {
+        let alloc = rt.alloc();
+        let session = SessionName {
+            site: 1,
+            coord: 1,
+            number: 1,
+        };
+        let mut entries = Items::new(alloc);
+        entries.push(entry(alloc, 1, &[])?)?;
+        entries.push(entry(alloc, 2, &[Count { session, count: 1 }])?)?;
+        let execution = Execution {
+            entries,
+            loose: Items::new(alloc),
+            links: Items::new(alloc),
+        };
+        assert!(rt; execution.before(0, 1));
+        assert!(rt; !execution.before(1, 0));
+        assert!(rt; !execution.before(1, 1));
+        Ok(())
+    }
 
     #[test]
     fn a_copy_is_equal(rt: HostRuntime) -> Result<(), Fail> {

@@ -1,5 +1,6 @@
 -- The text of a report. Every line ends with a line feed, numbers are decimal and hex is lower case.
-use Rattle.std.specs.Prelude.{ℕ, List, [], ◌++◌, length, Bool, true, false, nat_lt, if◌then◌else◌, codes, count_by, decimal}
+use Rattle.std.specs.Prelude.{ℕ, List, [], ◌∷◌, ◌++◌, length, Bool, true, false, nat_lt, if◌then◌else◌, codes, count_by, decimal}
+use Rattle.std.specs.Fmt.{signed_decimal}
 use Rattle.std.specs.List.{flat_map, list_any}
 use Rattle.hex.specs.Hex.{encode_lower}
 use Rattle.us_kind.specs.declared.identity.Tid.{Tid}
@@ -37,12 +38,38 @@ item_text i = decimal i.space ++ codes ":" ++ encode_lower i.id
 abbrev pub op_text : Op → List ℕ
 op_text op.RegisterRead = codes "read"
 op_text (op.RegisterWrite value) = codes "write:" ++ encode_lower value
+op_text op.CounterRead = codes "read"
+op_text (op.CounterAdd amount) = codes "add:" ++ signed_decimal amount
+op_text op.SetMembers = codes "members"
+op_text (op.SetContains value) = codes "contains:" ++ encode_lower value
+op_text (op.SetAdd value) = codes "add:" ++ encode_lower value
+op_text (op.SetRemove value) = codes "remove:" ++ encode_lower value
+op_text op.FlagRead = codes "read"
+op_text op.FlagEnable = codes "enable"
+op_text op.FlagDisable = codes "disable"
+op_text op.MultiRead = codes "read"
+op_text (op.MultiWrite value) = codes "write:" ++ encode_lower value
+
+-- values, a comma before each
+abbrev pub others_text : List (List ℕ) → List ℕ
+others_text vs = flat_map (λ v. codes "," ++ encode_lower v) vs
+
+-- values with commas between
+abbrev pub values_text : List (List ℕ) → List ℕ
+values_text [] = []
+values_text (v ∷ vs) = encode_lower v ++ others_text vs
+
+abbrev pub bit_text : Bool → List ℕ
+bit_text b = if b then codes "yes" else codes "no"
 
 -- what an operation answered
 abbrev pub answer_text : Answer → List ℕ
 answer_text answer.Done = codes "done"
 answer_text answer.Nothing = codes "none"
 answer_text (answer.Value value) = codes "value:" ++ encode_lower value
+answer_text (answer.Number number) = codes "number:" ++ signed_decimal number
+answer_text (answer.Values values) = codes "values:" ++ decimal (length values) ++ codes ":" ++ values_text values
+answer_text (answer.Bit b) = bit_text b
 
 -- the line of an answered operation
 abbrev pub done_text : Done → List ℕ

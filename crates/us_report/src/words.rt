@@ -3,7 +3,7 @@ ghost use Rattle.us_report.specs.Text.{kind_text, end_text, strong_count, is_abo
 
 use std::fmt;
 use us_exec::{Entry, Execution, Loose, LooseEnd, SessionName};
-use us_kind::Tid;
+use us_kind::{Bytes, Tid};
 use us_value::{Answer, Item, Op};
 
 /// A transaction, printed as three numbers with dots.
@@ -21,6 +21,14 @@ pub struct Hex<'a>(pub &'a [u8]);
 /// An item, printed as its space and its id in hex.
 #[derive(Clone, Copy)]
 pub struct ItemText<'a>(pub &'a Item);
+
+/// Values, printed in hex with commas between.
+#[derive(Clone, Copy)]
+pub struct ValuesText<'a>(pub &'a [Bytes]);
+
+/// Values, printed in hex with a comma before each.
+#[derive(Clone, Copy)]
+pub struct OthersText<'a>(pub &'a [Bytes]);
 
 /// An operation as it is printed.
 #[derive(Clone, Copy)]
@@ -83,6 +91,36 @@ impl fmt::Display for ItemText<'_> {
     }
 }
 
+impl fmt::Display for ValuesText<'_> {
+    ghost use Rattle.std.specs.Prelude.{Some};
+    ghost use Rattle.us_report.specs.Text.{values_text};
+
+    ghost output = { λ a. Some (values_text a.0.now) };
+
+    fn fmt<W: fmt::Write>(&self, f: &mut fmt::Formatter<W>) -> fmt::Result {
+        match self.0.split_first() {
+            None => Ok(()),
+            Some((first, others)) => {
+                write!(f, "{}{}", Hex(first.as_slice()), OthersText(others))
+            }
+        }
+    }
+}
+
+impl fmt::Display for OthersText<'_> {
+    ghost use Rattle.std.specs.Prelude.{Some};
+    ghost use Rattle.us_report.specs.Text.{others_text};
+
+    ghost output = { λ a. Some (others_text a.0.now) };
+
+    fn fmt<W: fmt::Write>(&self, f: &mut fmt::Formatter<W>) -> fmt::Result {
+        for value in self.0 {
+            write!(f, ",{}", Hex(value.as_slice()))?;
+        }
+        Ok(())
+    }
+}
+
 impl fmt::Display for OpText<'_> {
     ghost use Rattle.std.specs.Prelude.{Some};
     ghost use Rattle.us_report.specs.Text.{op_text};
@@ -93,6 +131,17 @@ impl fmt::Display for OpText<'_> {
         match self.0 {
             Op::RegisterRead => f.write_str("read"),
             Op::RegisterWrite { value } => write!(f, "write:{}", Hex(value.as_slice())),
+            Op::CounterRead => f.write_str("read"),
+            Op::CounterAdd { amount } => write!(f, "add:{amount}"),
+            Op::SetMembers => f.write_str("members"),
+            Op::SetContains { value } => write!(f, "contains:{}", Hex(value.as_slice())),
+            Op::SetAdd { value } => write!(f, "add:{}", Hex(value.as_slice())),
+            Op::SetRemove { value } => write!(f, "remove:{}", Hex(value.as_slice())),
+            Op::FlagRead => f.write_str("read"),
+            Op::FlagEnable => f.write_str("enable"),
+            Op::FlagDisable => f.write_str("disable"),
+            Op::MultiRead => f.write_str("read"),
+            Op::MultiWrite { value } => write!(f, "write:{}", Hex(value.as_slice())),
         }
     }
 }
@@ -108,6 +157,16 @@ impl fmt::Display for AnswerText<'_> {
             Answer::Done => f.write_str("done"),
             Answer::Nothing => f.write_str("none"),
             Answer::Value { value } => write!(f, "value:{}", Hex(value.as_slice())),
+            Answer::Number { number } => write!(f, "number:{number}"),
+            Answer::Values { values } => {
+                write!(
+                    f,
+                    "values:{}:{}",
+                    values.len(),
+                    ValuesText(values.as_slice())
+                )
+            }
+            Answer::Bit { yes } => f.write_str(if *yes { "yes" } else { "no" }),
         }
     }
 }
@@ -154,7 +213,13 @@ pub fn end_word(end: LooseEnd) -> &'static str
 fn strong_count(entries: &[Entry]) -> usize
     ensures { result ≡ strong_count entries.now }
 {
-    entries.iter().filter(|entry| entry.strong).count()
+    let mut count = 0;
+    for entry in entries {
+        if entry.strong {
+            count += 1;
+        }
+    }
+    count
 }
 
 /// Whether the transaction was aborted; no end says so yet.
@@ -170,5 +235,11 @@ fn is_aborted(end: LooseEnd) -> bool
 fn aborted_count(loose: &[Loose]) -> usize
     ensures { result ≡ aborted_count loose.now }
 {
-    loose.iter().filter(|one| is_aborted(one.end)).count()
+    let mut count = 0;
+    for one in loose {
+        if is_aborted(one.end) {
+            count += 1;
+        }
+    }
+    count
 }

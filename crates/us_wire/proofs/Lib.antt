@@ -2,3 +2,5 @@ pub mod Fronts
 pub mod Readers
 pub mod Spelled
 pub mod Pieces
+pub mod Combined
+pub mod WholeFrames

@@ -1,6 +1,7 @@
 //! Laws of the definitions that the contracts cite: each is a function whose contract says it.
 ghost use Rattle.std.specs.Int.{w8, w16, w32, w64, w128};
 ghost use Rattle.us_wire.specs.Fields.{ReadsIntegers, ReadsNumbers, ReadsValues};
+ghost use Rattle.us_wire.specs.Readings.{ReadsBetween};
 ghost use Rattle.us_wire.specs.Runs.{PiecesDoNotMatter, StreamsHaveFrames};
 
 /// Each stream is its whole frames and a rest that begins with none, in one way.
@@ -23,4 +24,10 @@ pub fn fields_are_read_as_spelled()
     ensures signed_eights { ReadsIntegers w64 }
     ensures signed_sixteens { ReadsIntegers w128 }
     ensures values { ReadsValues }
+{}
+
+/// A number within bounds is read as it is spelled; none is read where none within the bounds stands.
+pub fn bounded_numbers_are_read_as_spelled()
+    ensures bytes { ReadsBetween w8 }
+    ensures eights { ReadsBetween w64 }
 {}

@@ -1,8 +1,9 @@
 ghost use Rattle.std.specs.Prelude.{◌≡◌, option_map};
 ghost use Rattle.std.specs.Int.{w8, w16, w32, w64, w128};
 ghost use Rattle.us_wire.specs.Fields.{number_at, integer_at, value_at};
+ghost use Rattle.us_wire.specs.Readings.{number_between_at, largest_number};
 
-use crate::LONGEST_VALUE;
+use crate::{LARGEST_NUMBER, LONGEST_VALUE};
 
 /// A byte, and the place behind it.
 pub fn take_u8(input: &[u8], at: usize) -> Option<(u8, usize)>
@@ -62,4 +63,28 @@ pub fn take_value(input: &[u8], at: usize) -> Option<(&[u8], usize)>
         return None;
     }
     Some((&input[start..start + len], start + len))
+}
+
+/// A byte from `least` to `most`, and the place behind it.
+#[tactic(auto, unfolding(crate::specs::Readings::number_between_at))]
+pub fn take_u8_between(input: &[u8], at: usize, least: u8, most: u8) -> Option<(u8, usize)>
+    ensures { result ≡ number_between_at w8 least most input.now at }
+{
+    let (byte, next) = take_u8(input, at)?;
+    if byte < least || most < byte {
+        return None;
+    }
+    Some((byte, next))
+}
+
+/// A number of eight bytes, at least `least` and at most 2^62, and the place behind it.
+#[tactic(auto, unfolding(crate::specs::Readings::number_between_at))]
+pub fn take_number(input: &[u8], at: usize, least: u64) -> Option<(u64, usize)>
+    ensures { result ≡ number_between_at w64 least largest_number input.now at }
+{
+    let (number, next) = take_u64(input, at)?;
+    if number < least || LARGEST_NUMBER < number {
+        return None;
+    }
+    Some((number, next))
 }

@@ -1,5 +1,5 @@
 use Rattle.std.proofs.Common.{◌≡◌, ◌+◌, ◌-◌, ◌++◌}
-use Rattle.us_config.specs.Node.{default_addresses}
+use Rattle.us_config.specs.Meaning.{default_addresses}
 use Rattle.us_config.proofs.node.local_addresses.Given as goal
 
 abbrev pub invariant-loop-site : goal.invariant-loop-site
