@@ -6,7 +6,13 @@ use Rattle.us_value.specs.declared.operation.Answer.TheVariants as answer
 use Rattle.us_exec.specs.declared.SessionName.{SessionName}
 use Rattle.us_exec.specs.declared.Done.{Done}
 use Rattle.us_exec.specs.declared.Execution.{Execution}
+use Rattle.us_value.specs.declared.operation.Kind.TheVariants.{Register}
+use Rattle.us_model.specs.State.{Spaces}
 use Rattle.us_model.specs.Worlds.{Happening, Opens, Sends, Comes}
+
+-- one space, of registers
+abbrev pub example_spaces : Spaces
+example_spaces = (1, Register) ∷ []
 
 -- frames of the client
 abbrev pub begin_frame : List ℕ

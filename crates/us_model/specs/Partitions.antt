@@ -1,5 +1,5 @@
 -- The rules of a partition. Each takes the partition's own actor.
-use Rattle.std.specs.Prelude.{ℕ, ◌+◌, ◌-◌, ◌^◌, ◌%◌, List, [], ◌∷◌, ◌++◌, Bool, true, false, not, ◌&&◌, if◌then◌else◌, nat_le, Option, Some, None, max, min, filter, position, remove, slice_get}
+use Rattle.std.specs.Prelude.{ℕ, ◌+◌, ◌-◌, ◌^◌, ◌%◌, List, [], ◌∷◌, ◌++◌, Bool, true, false, not, ◌&&◌, if◌then◌else◌, nat_le, nat_lt, Option, Some, None, max, min, filter, position, remove, slice_get}
 use Rattle.std.specs.List.{list_any}
 use Rattle.us_kind.specs.Words.{tid_eq}
 use Rattle.us_kind.specs.declared.identity.Tid.{Tid}
@@ -9,13 +9,18 @@ use Rattle.us_value.specs.declared.item.Write.{Write}
 use Rattle.us_value.specs.declared.operation.Kind.{Kind}
 use Rattle.us_value.specs.declared.operation.Kind.TheVariants.{Register}
 use Rattle.us_value.specs.declared.operation.Effect.{Effect}
+use Rattle.us_value.specs.declared.operation.Answer.{Answer}
 use Rattle.us_value.specs.declared.operation.State.{State}
 use Rattle.us_value.specs.Items.{item_eq}
+use Rattle.us_value.specs.Catalogs.{kind_in}
+use Rattle.us_model.specs.State.{Spaces}
+use Rattle.us_value.specs.Lengths.{answer_length, effect_length}
 use Rattle.us_value.specs.Values.{initial, updated, answered, prepared as prepared_effect}
 use Rattle.us_peer_wire.specs.declared.message.Actor.{Actor}
 use Rattle.us_peer_wire.specs.declared.message.Packet.{Packet}
 use Rattle.us_peer_wire.specs.declared.message.Message.TheVariants.{Version as VersionMessage}
-use Rattle.us_peer_wire.specs.declared.message.Form.TheVariants.{Answered}
+use Rattle.us_peer_wire.specs.declared.message.Form.{Form}
+use Rattle.us_peer_wire.specs.declared.message.Form.TheVariants.{Answered, WritesFull, AnswerFull}
 use Rattle.us_model.specs.declared.partition.LogTx.{LogTx}
 use Rattle.us_model.specs.declared.partition.PreparedTx.{PreparedTx}
 use Rattle.us_model.specs.declared.partition.Get.{Get}
@@ -108,33 +113,50 @@ abbrev pub after_own : Tid → State → List (ℕ × Effect) → State
 after_own tid s [] = s
 after_own tid s (e ∷ es) = after_own tid (updated s e.1 (record { sum = own_sum; tid = tid; place = e.0 })) es
 
--- every space is of registers at this stage
-abbrev pub kind_of : ℕ → Kind
-kind_of space = Register
+-- the kind of a space's items. A space that isn't configured has no items, so that any will do
+abbrev pub or_register : Option Kind → Kind
+or_register None = Register
+or_register (Some kind) = kind
 
-unfoldable pub state_for : List LogTx → Get → State
-state_for log g = after_own g.tid (after_log g.item g.snapshot (initial (kind_of g.item.space)) log) g.own
+abbrev pub kind_for : Spaces → ℕ → Kind
+kind_for spaces space = or_register (kind_in spaces space)
+
+unfoldable pub state_for : Spaces → List LogTx → Get → State
+state_for spaces log g = after_own g.tid (after_log g.item g.snapshot (initial (kind_for spaces g.item.space)) log) g.own
 
 -- WAKE, the partition's part: the questions whose snapshot is known are answered
 abbrev pub may_answer : List ℕ → Get → Bool
 may_answer known g = at_most g.snapshot known
 
-abbrev pub version_for : Actor → List LogTx → Get → Packet
-version_for me log g =
+-- the effect is longer than a transaction's writes may be
+abbrev pub is_too_long : Option Effect → Bool
+is_too_long None = false
+is_too_long (Some effect) = nat_lt 65536 (effect_length effect)
+
+-- what is told of an operation: its answer and effect, unless one of them is too long
+abbrev pub form_for : Answer → Option Effect → Form
+form_for answer effect =
+    if nat_lt 65000 (answer_length answer) then AnswerFull else (if is_too_long effect then WritesFull else Answered answer effect)
+
+-- what the operation of a question answers, and its effect
+abbrev pub answer_for : Spaces → List LogTx → Get → Answer
+answer_for spaces log g = answered g.op (state_for spaces log g)
+
+abbrev pub effect_for : Spaces → List LogTx → Get → Option Effect
+effect_for spaces log g = prepared_effect (record { tid = g.tid; place = g.place }) g.op (state_for spaces log g)
+
+abbrev pub version_for : Actor → Spaces → List LogTx → Get → Packet
+version_for me spaces log g =
     record {
       from = me;
       to = record { site = me.site; actor = g.from };
-      message = VersionMessage (record {
-        tid = g.tid;
-        place = g.place;
-        at = g.at;
-        form = Answered (answered g.op (state_for log g)) (prepared_effect (record { tid = g.tid; place = g.place }) g.op (state_for log g));
-      });
+      message = VersionMessage (record { tid = g.tid; place = g.place; at = g.at; form = form_for (answer_for spaces log g) (effect_for spaces log g) });
     }
 
-abbrev pub versions : Actor → List ℕ → List LogTx → List Get → List Packet
-versions me known log [] = []
-versions me known log (g ∷ gs) = if may_answer known g then version_for me log g ∷ versions me known log gs else versions me known log gs
+abbrev pub versions : Actor → Spaces → List ℕ → List LogTx → List Get → List Packet
+versions me spaces known log [] = []
+versions me spaces known log (g ∷ gs) =
+    if may_answer known g then version_for me spaces log g ∷ versions me spaces known log gs else versions me spaces known log gs
 
 abbrev pub still_parked : List ℕ → List Get → List Get
 still_parked known gs = filter (λ g. not (may_answer known g)) gs

@@ -1,20 +1,25 @@
 -- The rules of a coordinator, at one of its sessions.
-use Rattle.std.specs.Prelude.{ℕ, ◌+◌, List, [], ◌∷◌, ◌++◌, length, Bool, true, false, not, ◌&&◌, ◌==◌, if◌then◌else◌, nat_lt, Option, Some, None, max, filter}
+use Rattle.std.specs.Prelude.{ℕ, ◌+◌, List, [], ◌∷◌, ◌++◌, length, Bool, true, false, not, ◌&&◌, ◌==◌, if◌then◌else◌, nat_lt, nat_le, Option, Some, None, max, filter}
 use Rattle.std.specs.List.{list_any}
 use Rattle.us_kind.specs.Words.{tid_eq}
 use Rattle.us_kind.specs.declared.identity.Tid.{Tid}
 use Rattle.us_base.specs.Vector.{join, with_entry}
 use Rattle.us_value.specs.declared.item.Item.{Item}
 use Rattle.us_value.specs.declared.item.Write.{Write}
+use Rattle.us_value.specs.declared.operation.Kind.{Kind}
 use Rattle.us_value.specs.declared.operation.Op.{Op}
 use Rattle.us_value.specs.declared.operation.Effect.{Effect}
 use Rattle.us_value.specs.declared.operation.Answer.{Answer}
 use Rattle.us_value.specs.Items.{item_eq}
+use Rattle.us_value.specs.Values.{op_fits}
+use Rattle.us_value.specs.Catalogs.{kind_in}
+use Rattle.us_value.specs.Lengths.{write_length}
+use Rattle.us_model.specs.State.{Spaces}
 use Rattle.us_exec.specs.declared.SessionName.{SessionName}
 use Rattle.us_exec.specs.declared.Done.{Done}
 use Rattle.us_wire.specs.Frames.{Reader, Frames, frames_of, fed}
 use Rattle.us_client_wire.specs.declared.frame.Request.{Request}
-use Rattle.us_client_wire.specs.declared.frame.Request.TheVariants.{Begin, Perform, CommitCausal}
+use Rattle.us_client_wire.specs.declared.frame.Request.TheVariants.{Begin, Perform, CommitCausal, CommitStrong, Abandon, Barrier, AskToken, Attach}
 use Rattle.us_client_wire.specs.declared.frame.Reply.{Reply}
 use Rattle.us_client_wire.specs.declared.frame.Reply.TheVariants as reply
 use Rattle.us_client_wire.specs.Requests.{request_of}
@@ -56,7 +61,7 @@ abbrev pub with_note : Desk → Note → Desk
 with_note d n = record d { out = record d.out { notes = d.out.notes ++ n ∷ [] } }
 
 abbrev pub reply_out : Desk → Session → Reply → Bool → ClientOut
-reply_out d s r ends = record { coord = d.me.actor; session = s.number; bytes = reply_spelling r; ends = ends }
+reply_out d s r ends = record { coord = d.me.actor; session = s.number; bytes = reply_spelling d.shape r; ends = ends }
 
 -- a closed session isn't told any more
 abbrev pub tell : Desk → Session → Reply → Desk
@@ -100,12 +105,26 @@ abbrev pub own_effects : Item → List Write → List (ℕ × Effect)
 own_effects item [] = []
 own_effects item (w ∷ ws) = if item_eq w.item item then (w.place, w.effect) ∷ own_effects item ws else own_effects item ws
 
-abbrev pub performed : Desk → Session → ℕ → Transaction → Item → Op → Acted
-performed d s at tx item op =
+abbrev pub asked_for : Desk → Session → ℕ → Transaction → Item → Op → Acted
+asked_for d s at tx item op =
     record {
       desk = with_packets d (to_partition d (home item) (message.Get tx.tid (length tx.ops + 1) at tx.snapshot item op (own_effects item tx.writes)) ∷ []);
       session = record s { waits = waits.Version at (length tx.ops + 1) item op };
     }
+
+-- why the transaction may not do the operation on an item of a space of this kind, if so
+abbrev pub objection : Option Kind → Transaction → Op → Option ℕ
+objection None tx op = Some 4
+objection (Some kind) tx op = if op_fits kind op then (if nat_lt (length tx.ops) 64 then None else Some 6) else Some 5
+
+abbrev pub performed : Desk → Session → ℕ → Transaction → Item → Op → Option ℕ → Acted
+performed d s at tx item op None = asked_for d s at tx item op
+performed d s at tx item op (Some number) = refused d s at number
+
+-- ABANDON: the transaction ends as left
+abbrev pub abandoned : Desk → Session → ℕ → Transaction → Acted
+abandoned d s at tx =
+    record { desk = with_note (tell d s (reply.Dropped at)) (note.Left tx.tid); session = record s { running = None } }
 
 -- COMMIT
 abbrev pub ended : Desk → Session → ℕ → Transaction → List ℕ → Acted
@@ -130,17 +149,44 @@ abbrev pub committing : Desk → Session → ℕ → Transaction → List Write 
 committing d s at tx [] = ended d s at tx tx.snapshot
 committing d s at tx (w ∷ ws) = sent_out d s at tx
 
--- ONE REQUEST, by the transaction that runs
-abbrev pub request_in : Desk → Session → ℕ → Request → Option Transaction → Acted
-request_in d s at Begin None = begun d s at
-request_in d s at Begin (Some tx) = refused d s at 3
-request_in d s at (Perform item op) None = refused d s at 2
-request_in d s at (Perform item op) (Some tx) = if nat_lt (length tx.ops) 64 then performed d s at tx item op else refused d s at 6
-request_in d s at CommitCausal None = refused d s at 2
-request_in d s at CommitCausal (Some tx) = committing d s at tx tx.writes
+-- THE REQUESTS, by the transaction that runs
+abbrev pub begin : Desk → Session → ℕ → Option Transaction → Acted
+begin d s at None = begun d s at
+begin d s at (Some tx) = refused d s at 3
 
-unfoldable pub request : Desk → Session → ℕ → Request → Acted
-request d s at r = request_in d s at r s.running
+abbrev pub perform : Spaces → Desk → Session → ℕ → Item → Op → Option Transaction → Acted
+perform spaces d s at item op None = refused d s at 2
+perform spaces d s at item op (Some tx) = performed d s at tx item op (objection (kind_in spaces item.space) tx op)
+
+abbrev pub commit_causal : Desk → Session → ℕ → Option Transaction → Acted
+commit_causal d s at None = refused d s at 2
+commit_causal d s at (Some tx) = committing d s at tx tx.writes
+
+abbrev pub abandon : Desk → Session → ℕ → Option Transaction → Acted
+abandon d s at None = refused d s at 2
+abandon d s at (Some tx) = abandoned d s at tx
+
+-- ONE REQUEST. The last four kinds are no requests yet, so that none of them is ever performed
+unfoldable pub request : Spaces → Desk → Session → ℕ → Request → Acted
+request spaces d s at Begin = begin d s at s.running
+request spaces d s at (Perform item op) = perform spaces d s at item op s.running
+request spaces d s at CommitCausal = commit_causal d s at s.running
+request spaces d s at Abandon = abandon d s at s.running
+request spaces d s at CommitStrong = stays d s
+request spaces d s at Barrier = stays d s
+request spaces d s at AskToken = stays d s
+request spaces d s at (Attach token) = stays d s
+
+-- a request that is built
+abbrev pub is_built : Request → Bool
+is_built Begin = true
+is_built (Perform item op) = true
+is_built CommitCausal = true
+is_built Abandon = true
+is_built CommitStrong = false
+is_built Barrier = false
+is_built AskToken = false
+is_built (Attach token) = false
 
 -- RUN: requests are performed in order, until one waits
 abbrev pub is_nothing : Waiting → Bool
@@ -151,12 +197,12 @@ is_nothing (waits.Prepared at missing told) = false
 abbrev pub resume : Acted → (Desk → Session → Acted) → Acted
 resume a next = if is_nothing a.session.waits then next a.desk a.session else a
 
-abbrev pub run_asks : Desk → Session → List Ask → Acted
-run_asks d s [] = stays d (record s { asks = [] })
-run_asks d s (a ∷ rest) = resume (request d (record s { asks = rest }) a.at a.request) (λ d' s'. run_asks d' s' rest)
+abbrev pub run_asks : Spaces → Desk → Session → List Ask → Acted
+run_asks spaces d s [] = stays d (record s { asks = [] })
+run_asks spaces d s (a ∷ rest) = resume (request spaces d (record s { asks = rest }) a.at a.request) (λ d' s'. run_asks spaces d' s' rest)
 
-unfoldable pub run_session : Desk → Session → Acted
-run_session d s = if is_nothing s.waits then run_asks d s s.asks else stays d s
+unfoldable pub run_session : Spaces → Desk → Session → Acted
+run_session spaces d s = if is_nothing s.waits then run_asks spaces d s s.asks else stays d s
 
 -- CLOSE: requests and what is left of the stream are dropped, and the transaction ends as left, but for one that is being
 -- committed, which goes on
@@ -178,6 +224,10 @@ closes_in d s (waits.Prepared at missing told) = stays d (closed s)
 abbrev pub closes : Acted → Acted
 closes a = closes_in a.desk a.session a.session.waits
 
+-- the client closes the open session of this number
+unfoldable pub close : ℕ → Desk → Session → Acted
+close number d s = if (s.number == number) && not s.closed then closes_in d s s.waits else stays d s
+
 -- BYTES: each frame counts; one that is no request closes the session, as does a bad length
 abbrev pub counted : Session → Session
 counted s = record s { asked = s.asked + 1 }
@@ -185,29 +235,37 @@ counted s = record s { asked = s.asked + 1 }
 abbrev pub malformed : Desk → Session → Acted
 malformed d s = closes (refused d s s.asked 1)
 
-abbrev pub framed_in : Desk → Session → Option Request → Acted
-framed_in d s None = malformed d s
-framed_in d s (Some r) = run_session d (record s { asks = s.asks ++ record { at = s.asked; request = r } ∷ [] })
+-- the requests that aren't answered yet
+abbrev pub unanswered : Session → ℕ
+unanswered s = length s.asks + (if is_nothing s.waits then 0 else 1)
 
-unfoldable pub framed : Desk → Session → List ℕ → Acted
-framed d s frame = framed_in d (counted s) (request_of frame)
+abbrev pub joins : Spaces → Desk → Session → Request → Acted
+joins spaces d s r = run_session spaces d (record s { asks = s.asks ++ record { at = s.asked; request = r } ∷ [] })
+
+abbrev pub framed_in : Spaces → Desk → Session → Option Request → Acted
+framed_in spaces d s None = malformed d s
+framed_in spaces d s (Some r) =
+    if is_built r then (if nat_lt (unanswered s) 64 then joins spaces d s r else refused d s s.asked 9) else malformed d s
+
+unfoldable pub framed : Spaces → Desk → Session → List ℕ → Acted
+framed spaces d s frame = framed_in spaces d (counted s) (request_of d.shape frame)
 
 abbrev pub unless_closed : Acted → (Desk → Session → Acted) → Acted
 unless_closed a next = if a.session.closed then a else next a.desk a.session
 
-abbrev pub take_frames : Desk → Session → List (List ℕ) → Bool → Acted
-take_frames d s [] bad = if bad then malformed d (counted s) else stays d s
-take_frames d s (frame ∷ frames) bad = unless_closed (framed d s frame) (λ d' s'. take_frames d' s' frames bad)
+abbrev pub take_frames : Spaces → Desk → Session → List (List ℕ) → Bool → Acted
+take_frames spaces d s [] bad = if bad then malformed d (counted s) else stays d s
+take_frames spaces d s (frame ∷ frames) bad = unless_closed (framed spaces d s frame) (λ d' s'. take_frames spaces d' s' frames bad)
 
 -- the frames are taken off the stream, and then one after another
-abbrev pub take_stream : Desk → Session → Reader → Frames → Acted
-take_stream d s r fs = take_frames d (record s { stream = record { limit = r.limit; unread = fs.rest } }) fs.whole fs.bad
+abbrev pub take_stream : Spaces → Desk → Session → Reader → Frames → Acted
+take_stream spaces d s r fs = take_frames spaces d (record s { stream = record { limit = r.limit; unread = fs.rest } }) fs.whole fs.bad
 
-abbrev pub read_on : Desk → Session → Reader → Acted
-read_on d s r = take_stream d s r (frames_of r.limit r.unread)
+abbrev pub read_on : Spaces → Desk → Session → Reader → Acted
+read_on spaces d s r = take_stream spaces d s r (frames_of r.limit r.unread)
 
-unfoldable pub bytes : ℕ → List ℕ → Desk → Session → Acted
-bytes number piece d s = if (s.number == number) && not s.closed then read_on d s (fed s.stream piece) else stays d s
+unfoldable pub bytes : Spaces → ℕ → List ℕ → Desk → Session → Acted
+bytes spaces number piece d s = if (s.number == number) && not s.closed then read_on spaces d s (fed s.stream piece) else stays d s
 
 -- VERSION: the operation that waits for it is recorded
 abbrev pub write_of : Item → ℕ → Option Effect → List Write
@@ -224,8 +282,20 @@ recorded d s at place item op tx answer effect =
       };
     }
 
+-- how many bytes spell these writes
+abbrev pub writes_length : List Write → ℕ
+writes_length [] = 0
+writes_length (w ∷ ws) = write_length w + writes_length ws
+
+-- the operation isn't done: its transaction is as before
+abbrev pub turned_down : Desk → Session → ℕ → ℕ → Acted
+turned_down d s at number = refused d (record s { waits = waits.Nothing }) at number
+
 abbrev pub recorded_by : Desk → Session → ℕ → ℕ → Item → Op → Transaction → Form → Acted
-recorded_by d s at place item op tx (form.Answered answer effect) = recorded d s at place item op tx answer effect
+recorded_by d s at place item op tx (form.Answered answer effect) =
+    if nat_le (writes_length (tx.writes ++ write_of item place effect)) 65536 then recorded d s at place item op tx answer effect else turned_down d s at 7
+recorded_by d s at place item op tx form.WritesFull = turned_down d s at 7
+recorded_by d s at place item op tx form.AnswerFull = turned_down d s at 8
 
 abbrev pub is_awaited : Version → ℕ → ℕ → Transaction → Bool
 is_awaited v at place tx = tid_eq tx.tid v.tid && ((at == v.at) && (place == v.place))

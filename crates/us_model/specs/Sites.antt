@@ -1,8 +1,16 @@
 -- One step of a site: an event is taken by one of its actors, which then wakes.
-use Rattle.std.specs.Prelude.{ℕ, ◌+◌, ◌-◌, List, [], ◌∷◌, ◌++◌, length, Bool, true, false, ◌&&◌, ◌==◌, if◌then◌else◌, nat_lt, Option, Some, None, slice_get, slice_set}
+use Rattle.std.specs.Prelude.{ℕ, ◌+◌, ◌-◌, List, [], ◌∷◌, ◌++◌, length, Bool, true, false, ◌&&◌, ◌==◌, if◌then◌else◌, nat_lt, nat_le, Option, Some, None, slice_get, slice_set}
 use Rattle.us_base.specs.Vector.{zero}
-use Rattle.us_value.specs.declared.item.Item.{Item}
+use Rattle.us_base.specs.declared.shape.Shape.{Shape}
 use Rattle.us_value.specs.declared.item.Write.{Write}
+use Rattle.us_value.specs.declared.operation.Kind.{Kind}
+use Rattle.us_value.specs.declared.operation.Op.{Op}
+use Rattle.us_value.specs.declared.operation.Effect.{Effect}
+use Rattle.us_value.specs.Values.{op_fits, effect_fits}
+use Rattle.us_value.specs.Catalogs.{kind_in}
+use Rattle.us_model.specs.State.{Spaces}
+use Rattle.us_client_wire.specs.declared.frame.Reply.TheVariants as reply
+use Rattle.us_client_wire.specs.Replies.{reply_spelling}
 use Rattle.us_wire.specs.Frames.{Reader}
 use Rattle.us_peer_wire.specs.declared.message.Actor.{Actor}
 use Rattle.us_peer_wire.specs.declared.message.Packet.{Packet}
@@ -15,9 +23,10 @@ use Rattle.us_model.specs.declared.event.Outputs.{Outputs}
 use Rattle.us_model.specs.declared.coordinator.Session.{Session}
 use Rattle.us_model.specs.declared.coordinator.Waiting.TheVariants as waits
 use Rattle.us_model.specs.declared.coordinator.Desk.{Desk}
+use Rattle.us_model.specs.declared.settings.Settings.{Settings}
 use Rattle.us_model.specs.State.{Partition, Coordinator, Shard, Site}
 use Rattle.us_model.specs.Partitions.{known, base, get, may_prepare, prepared as prepared_here, timestamp_for, commit, versions, still_parked}
-use Rattle.us_model.specs.Sessions.{no_stream, Acted, AllActed, each_session, bytes, version, prepared, run_session}
+use Rattle.us_model.specs.Sessions.{no_stream, Acted, AllActed, each_session, bytes, close, version, prepared, run_session}
 
 abbrev pub no_outputs : Outputs
 no_outputs = record { packets = []; client = []; notes = [] }
@@ -28,8 +37,8 @@ pub record Went : Type 0 where
   pub out : Outputs
 
 -- THE SESSIONS' PART OF A RULE
-abbrev pub desk_of : Actor → Went → Desk
-desk_of me w = record { me = me; base = base me w.shard.partition; seq = w.shard.coordinator.seq; out = w.out }
+abbrev pub desk_of : Actor → Shape → Went → Desk
+desk_of me shape w = record { me = me; shape = shape; base = base me w.shard.partition; seq = w.shard.coordinator.seq; out = w.out }
 
 abbrev pub with_sessions : Went → AllActed → Went
 with_sessions w all =
@@ -38,8 +47,8 @@ with_sessions w all =
       out = all.desk.out;
     }
 
-abbrev pub all_sessions : (Desk → Session → Acted) → Actor → Went → Went
-all_sessions f me w = with_sessions w (each_session f (desk_of me w) w.shard.coordinator.sessions)
+abbrev pub all_sessions : (Desk → Session → Acted) → Actor → Shape → Went → Went
+all_sessions f me shape w = with_sessions w (each_session f (desk_of me shape w) w.shard.coordinator.sessions)
 
 -- THE PARTITION'S PART
 abbrev pub with_partition : Went → Partition → List Packet → Went
@@ -69,65 +78,101 @@ opened coord w =
       out = record w.out { notes = w.out.notes ++ note.Opened coord number ∷ [] };
     }
 
+-- an open at a site that has its greatest number of open sessions is refused, by a reply under no session's number
+abbrev pub refused_open : ℕ → Shape → Went → Went
+refused_open coord shape w =
+    record w {
+      out = record w.out {
+        client = w.out.client ++ record { coord = coord; session = 0; bytes = reply_spelling shape (reply.Refused 0 11); ends = true } ∷ [];
+      };
+    }
+
+-- how many sessions are open
+abbrev pub open_in : List Session → ℕ
+open_in [] = 0
+open_in (s ∷ ss) = if s.closed then open_in ss else open_in ss + 1
+
+abbrev pub open_at : List Shard → ℕ
+open_at [] = 0
+open_at (shard ∷ shards) = open_in shard.coordinator.sessions + open_at shards
+
 -- A PACKET COMES
 -- an answer to the packet's sender
 abbrev pub answer_to : Actor → Actor → Message → Packet
 answer_to me from m = record { from = me; to = from; message = m }
 
-abbrev pub take_message : Actor → Actor → Went → Message → Went
-take_message me from w (message.Get tid place at snapshot item op own) =
+abbrev pub take_message : Actor → Shape → Actor → Went → Message → Went
+take_message me shape from w (message.Get tid place at snapshot item op own) =
     with_partition w
     (get me w.shard.partition (record { from = from.actor; tid = tid; place = place; at = at; snapshot = snapshot; item = item; op = op; own = own })) []
-take_message me from w (message.Version v) = all_sessions (version v) me w
-take_message me from w (message.Prepare tid snapshot writes) =
+take_message me shape from w (message.Version v) = all_sessions (version v) me shape w
+take_message me shape from w (message.Prepare tid snapshot writes) =
     if may_prepare me w.shard.partition tid snapshot
     then with_partition w (prepared_here me w.shard.partition tid snapshot writes) (answer_to me from (message.Prepared tid (timestamp_for me w.shard.partition snapshot)) ∷ [])
     else w
-take_message me from w (message.Prepared tid ts) = all_sessions (prepared from.actor tid ts) me w
-take_message me from w (message.Commit tid vector) = with_partition w (commit me w.shard.partition tid vector) []
+take_message me shape from w (message.Prepared tid ts) = all_sessions (prepared from.actor tid ts) me shape w
+take_message me shape from w (message.Commit tid vector) = with_partition w (commit me w.shard.partition tid vector) []
 
--- A PACKET THAT AN ACTOR TAKES: from a partition's actor of the own site, about items of a configured space
-abbrev pub is_configured : Item → Bool
-is_configured item = item.space == 1
+-- A PACKET THAT AN ACTOR TAKES: from a partition's actor of the own site, about items of configured spaces, with operations and
+-- effects of their kinds
+abbrev pub op_is_of : Option Kind → Op → Bool
+op_is_of None op = false
+op_is_of (Some kind) op = op_fits kind op
 
-abbrev pub all_configured : List Write → Bool
-all_configured [] = true
-all_configured (w ∷ ws) = is_configured w.item && all_configured ws
+abbrev pub effect_is_of : Option Kind → Effect → Bool
+effect_is_of None effect = false
+effect_is_of (Some kind) effect = effect_fits kind effect
 
-abbrev pub message_fits : Message → Bool
-message_fits (message.Get tid place at snapshot item op own) = is_configured item
-message_fits (message.Version v) = true
-message_fits (message.Prepare tid snapshot writes) = all_configured writes
-message_fits (message.Prepared tid ts) = true
-message_fits (message.Commit tid vector) = true
+abbrev pub own_are_of : Option Kind → List (ℕ × Effect) → Bool
+own_are_of kind [] = true
+own_are_of kind (e ∷ es) = effect_is_of kind e.1 && own_are_of kind es
 
-abbrev pub is_for : Actor → Packet → Bool
-is_for me packet = (packet.from.site == me.site) && ((packet.from.actor == 1) && message_fits packet.message)
+abbrev pub writes_fit : Spaces → List Write → Bool
+writes_fit spaces [] = true
+writes_fit spaces (w ∷ ws) = effect_is_of (kind_in spaces w.item.space) w.effect && writes_fit spaces ws
+
+abbrev pub message_fits : Spaces → Message → Bool
+message_fits spaces (message.Get tid place at snapshot item op own) =
+    op_is_of (kind_in spaces item.space) op && own_are_of (kind_in spaces item.space) own
+message_fits spaces (message.Version v) = true
+message_fits spaces (message.Prepare tid snapshot writes) = writes_fit spaces writes
+message_fits spaces (message.Prepared tid ts) = true
+message_fits spaces (message.Commit tid vector) = true
+
+abbrev pub is_for : Actor → Spaces → Packet → Bool
+is_for me spaces packet = (packet.from.site == me.site) && ((packet.from.actor == 1) && message_fits spaces packet.message)
 
 -- AN EVENT, and its actor
 abbrev pub actor_of : Event → ℕ
 actor_of (event.Open coord) = coord
 actor_of (event.Bytes coord session piece) = coord
+actor_of (event.Close coord session) = coord
 actor_of (event.Take packet) = packet.to.actor
 
-unfoldable pub take_event : Actor → Went → Event → Went
-take_event me w (event.Open coord) = opened coord w
-take_event me w (event.Bytes coord session piece) = all_sessions (bytes session piece) me w
-take_event me w (event.Take packet) = if is_for me packet then take_message me packet.from w packet.message else w
+unfoldable pub take_event : Actor → Settings → Bool → Went → Event → Went
+take_event me settings full w (event.Open coord) = if full then refused_open coord settings.shape w else opened coord w
+take_event me settings full w (event.Bytes coord session piece) = all_sessions (bytes settings.catalog session piece) me settings.shape w
+take_event me settings full w (event.Close coord session) = all_sessions (close session) me settings.shape w
+take_event me settings full w (event.Take packet) =
+    if is_for me settings.catalog packet then take_message me settings.shape packet.from w packet.message else w
 
 -- WAKE: waiting questions are answered, and then each session runs
-abbrev pub answers : Actor → Went → Went
-answers me w =
+abbrev pub answers : Actor → Spaces → Went → Went
+answers me spaces w =
     let p = w.shard.partition in
-    with_partition w (record p { parked = still_parked (known me p) p.parked }) (versions me (known me p) p.log p.parked)
+    with_partition w (record p { parked = still_parked (known me p) p.parked }) (versions me spaces (known me p) p.log p.parked)
 
-unfoldable pub wake : Actor → Went → Went
-wake me w = all_sessions run_session me (answers me w)
+unfoldable pub wake : Actor → Settings → Went → Went
+wake me settings w = all_sessions (run_session settings.catalog) me settings.shape (answers me settings.catalog w)
 
 -- THE STEP OF A SITE
 pub record Stepped : Type 0 where
   pub site : Site
   pub out : Outputs
+
+-- a site has so many open sessions at most
+abbrev pub is_full : Site → Bool
+is_full site = nat_le 4096 (open_at site.shards)
 
 -- actors 1 and so on have a partition and a coordinator
 abbrev pub shard_at : List Shard → ℕ → Option Shard
@@ -138,7 +183,7 @@ with_shard site actor w = record { site = record site { shards = slice_set site.
 
 abbrev pub step_of : Site → Event → Actor → Option Shard → Stepped
 step_of site e me None = record { site = site; out = no_outputs }
-step_of site e me (Some shard) = with_shard site me.actor (wake me (take_event me (record { shard = shard; out = no_outputs }) e))
+step_of site e me (Some shard) = with_shard site me.actor (wake me site.settings (take_event me site.settings (is_full site) (record { shard = shard; out = no_outputs }) e))
 
 abbrev pub site_step : Site → Event → Stepped
 site_step site e = step_of site e (record { site = site.number; actor = actor_of e }) (shard_at site.shards (actor_of e))
@@ -151,6 +196,10 @@ new_shard =
       coordinator = record { seq = 0; sessions = [] };
     }
 
--- a site with one partition
-abbrev pub new_site : ℕ → Site
-new_site number = record { number = number; shards = new_shard ∷ [] }
+-- a store of one site with one partition
+abbrev pub lone : Shape
+lone = record { f = 0; parts = 1 }
+
+-- a site of it, with these spaces
+abbrev pub new_site : ℕ → Spaces → Site
+new_site number spaces = record { number = number; settings = record { shape = lone; catalog = spaces }; shards = new_shard ∷ [] }

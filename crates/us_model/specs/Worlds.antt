@@ -10,7 +10,7 @@ use Rattle.us_model.specs.declared.coordinator.Ask.{Ask}
 use Rattle.us_model.specs.declared.coordinator.Session.{Session}
 use Rattle.us_model.specs.declared.coordinator.Waiting.{Waiting}
 use Rattle.us_model.specs.declared.coordinator.Waiting.TheVariants as waits
-use Rattle.us_model.specs.State.{Shard, Site}
+use Rattle.us_model.specs.State.{Spaces, Shard, Site}
 use Rattle.us_model.specs.Sites.{Stepped, site_step, new_site}
 
 -- the sites from 1, the packets in the order of sending, the numbers of those that were delivered (a packet may come
@@ -21,10 +21,11 @@ pub record World : Type 0 where
   pub delivered : List ℕ
   pub notes : List Note
 
--- what may happen next: a client opens a session or sends bytes, or the k-th packet ever sent comes
+-- what may happen next: a client opens a session, sends bytes or closes its session, or the k-th packet ever sent comes
 pub data Happening : Type 0 where
   Opens : (site coord : ℕ) → Happening
   Sends : (site coord session : ℕ) → (piece : List ℕ) → Happening
+  Closes : (site coord session : ℕ) → Happening
   Comes : (k : ℕ) → Happening
 
 -- of things that are counted from 1, the n-th
@@ -53,6 +54,7 @@ comes w k (Some packet) = at_site (delivered w k) packet.to.site (event.Take pac
 unfoldable pub happens : World → Happening → World
 happens w (Opens site coord) = at_site w site (event.Open coord)
 happens w (Sends site coord session piece) = at_site w site (event.Bytes coord session piece)
+happens w (Closes site coord session) = at_site w site (event.Close coord session)
 happens w (Comes k) = comes w k (nth w.packets k)
 
 -- A RUN: one thing after another
@@ -60,9 +62,9 @@ abbrev pub run : List Happening → World → World
 run [] w = w
 run (h ∷ hs) w = run hs (happens w h)
 
--- THE OPENING WORLD: one site with one partition
-abbrev pub start : World
-start = record { sites = new_site 1 ∷ []; packets = []; delivered = []; notes = [] }
+-- THE OPENING WORLD: one site with one partition, and these spaces
+abbrev pub start : Spaces → World
+start spaces = record { sites = new_site 1 spaces ∷ []; packets = []; delivered = []; notes = [] }
 
 -- THE LEAST UNDELIVERED PACKET from one site to another, counted from 1
 abbrev pub is_delivered : List ℕ → ℕ → Bool

@@ -1,5 +1,5 @@
 use crate::Outputs;
-use us_base::Vector;
+use us_base::{Shape, Vector};
 use us_client_wire::Request;
 use us_exec::Done;
 use us_kind::{Items, Tid};
@@ -74,6 +74,8 @@ pub struct Session {
 pub struct Desk {
     /// The coordinator's own actor.
     pub me: Actor,
+    /// The shape of the store, by which replies are spelled.
+    pub shape: Shape,
     /// The vector that snapshots begin with.
     pub base: Vector,
     /// How many transactions the coordinator has begun.

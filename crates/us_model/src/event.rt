@@ -16,6 +16,11 @@ pub enum Event {
         session: u64,
         bytes: Bytes,
     },
+    /// A client closes a session.
+    Close {
+        coord: u8,
+        session: u64,
+    },
     /// A packet comes.
     Take {
         packet: Packet,

@@ -5,8 +5,10 @@ mod coordinator;
 mod event;
 mod example;
 mod partition;
+mod settings;
 
 pub use coordinator::{Ask, Desk, PreparedAt, Session, Transaction, Waiting};
 pub use event::{ClientOut, Event, Note, Outputs};
 pub use example::worked_example;
 pub use partition::{Get, LogTx, PreparedTx};
+pub use settings::Settings;

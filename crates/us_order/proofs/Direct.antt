@@ -2,7 +2,7 @@
 use Rattle.std.proofs.Common.{◌≡◌, inl, inr, List, [], ◌∷◌, Bool, true, false, refl, ap, ◌∙◌, cond}
 use Rattle.us_kind.specs.Words.{In}
 use Rattle.us_exec.specs.declared.SessionName.{SessionName}
-use Rattle.us_model.specs.State.{Partition}
+use Rattle.us_model.specs.State.{Partition, Spaces}
 use Rattle.us_model.specs.Executions.{Begun, Committed, History, count_from, sessions_of, counted, counts, past_of, arbitrated, entry_of, entries_of, is_committed, end_of, ops_of, loose_one, loose_of, execution_by}
 use Rattle.us_order.specs.Pasts.{direct_count, direct_counts, direct_past, direct_entry_of, direct_entries, direct_loose_one, direct_loose, direct_execution}
 use Rattle.us_order.proofs.Ledgers.{Ledger}
@@ -36,12 +36,12 @@ loose-same h (b ∷ bs) f = on (is_committed b.tid h.committed) (one (f b (inl r
     on false e k = λ i. e i ∷ k i
 
 -- the past of a transaction that began
-past-same : (p : Partition) (l : Ledger) → PartitionFacts p l → SharedFacts l → (t : Begun) → In t l.history.begun → past_of l.history.committed t ≡ direct_past l.history.committed t
-past-same p l part all t j = counts-same l.history.committed t (λ s. count_direct p l part all s t j) (sessions_of l.history.committed)
+past-same : (spaces : Spaces) (p : Partition) (l : Ledger) → PartitionFacts spaces p l → SharedFacts l → (t : Begun) → In t l.history.begun → past_of l.history.committed t ≡ direct_past l.history.committed t
+past-same spaces p l part all t j = counts-same l.history.committed t (λ s. count_direct spaces p l part all s t j) (sessions_of l.history.committed)
 
-pub execution-same : (p : Partition) (l : Ledger) → PartitionFacts p l → SharedFacts l → execution_by l.history ≡ direct_execution l.history
-execution-same p l part all =
+pub execution-same : (spaces : Spaces) (p : Partition) (l : Ledger) → PartitionFacts spaces p l → SharedFacts l → execution_by l.history ≡ direct_execution l.history
+execution-same spaces p l part all =
     let cs = l.history.committed in
-    let entries = entries-same cs (arbitrated cs) (λ c k. past-same p l part all c.begun (part.decided c (in_arbitrated c cs k)).begun) in
-    let loose = loose-same l.history l.history.begun (past-same p l part all) in
+    let entries = entries-same cs (arbitrated cs) (λ c k. past-same spaces p l part all c.begun (part.decided c (in_arbitrated c cs k)).begun) in
+    let loose = loose-same l.history l.history.begun (past-same spaces p l part all) in
     λ i. record { entries = entries i; loose = loose i; links = [] }

@@ -1,57 +1,37 @@
 -- The facts that every event keeps.
-use Rattle.std.proofs.Common.{◌≡◌, ◌⊎◌, inl, inr, ⊎_elim, ℕ, ◌+◌, ◌<◌, ◌≤◌, ◌^◌, List, [], ◌∷◌, ◌++◌, length, append-nil, append_assoc, Bool, true, false, refl, sym, ap, ◌∙◌, subst, arith, cond, true≢false}
-use Rattle.std.specs.Prelude.{Some, None, Option}
+use Rattle.std.proofs.Common.{◌≡◌, ◌⊎◌, inl, inr, ⊎_elim, ℕ, ◌+◌, ◌<◌, ◌≤◌, ◌^◌, List, [], ◌∷◌, ◌++◌, length, append-nil, append_assoc, Bool, true, false, refl, sym, ap, ◌∙◌, subst, cond, true≢false}
+use Rattle.std.specs.Prelude.{Some, Option}
 use Rattle.us_kind.specs.Words.{In, tid_eq}
 use Rattle.us_kind.specs.declared.identity.Tid.{Tid}
 use Rattle.us_kind.proofs.ListLemmas.{in_append, in_split, in_later, in_grown, GoesOn, goes_nowhere, goes_further}
 use Rattle.us_kind.proofs.TestLemmas.{tid_eq-true, tid_eq-same}
 use Rattle.us_base.specs.Vector.{entry, at_most}
+use Rattle.us_kind.specs.Updates.{AllLater}
 use Rattle.us_value.specs.declared.item.Item.{Item}
 use Rattle.us_value.specs.declared.item.Write.{Write}
 use Rattle.us_value.specs.declared.operation.Op.{Op}
-use Rattle.us_value.specs.declared.operation.Op.TheVariants.{RegisterRead, RegisterWrite}
 use Rattle.us_value.specs.declared.operation.Effect.{Effect}
-use Rattle.us_value.specs.declared.operation.Effect.TheVariants as effect
-use Rattle.us_value.specs.declared.operation.State.{State}
-use Rattle.us_value.specs.Values.{initial, answered}
+use Rattle.us_value.specs.Values.{answered, prepared as prepared_effect}
 use Rattle.us_exec.specs.declared.SessionName.{SessionName}
 use Rattle.us_exec.specs.declared.Done.{Done}
 use Rattle.us_peer_wire.specs.declared.message.Message.{Message}
 use Rattle.us_peer_wire.specs.declared.message.Message.TheVariants as message
 use Rattle.us_peer_wire.specs.declared.message.Form.{Form}
-use Rattle.us_peer_wire.specs.declared.message.Form.TheVariants as form
 use Rattle.us_model.specs.declared.partition.LogTx.{LogTx}
 use Rattle.us_model.specs.declared.partition.PreparedTx.{PreparedTx}
 use Rattle.us_model.specs.declared.partition.Get.{Get}
 use Rattle.us_model.specs.declared.coordinator.Transaction.{Transaction}
+use Rattle.us_model.specs.declared.coordinator.Ask.{Ask}
 use Rattle.us_model.specs.declared.coordinator.Waiting.{Waiting}
 use Rattle.us_model.specs.declared.coordinator.Waiting.TheVariants as waits
-use Rattle.us_model.specs.State.{Partition}
-use Rattle.us_model.specs.Partitions.{known, after_log, after_own, kind_of}
-use Rattle.us_model.specs.Sessions.{own_effects, write_of}
-use Rattle.us_model.specs.Executions.{Begun, Performed, Committed, History, ops_of, committed_in}
+use Rattle.us_model.specs.State.{Partition, Spaces}
+use Rattle.us_model.specs.Partitions.{known, form_for}
+use Rattle.us_model.specs.Sessions.{own_effects}
+use Rattle.us_model.specs.Executions.{Begun, Performed, Committed, History, ops_of, committed_in, is_stamped}
 use Rattle.us_order.proofs.Ledgers.{me, name, Ledger}
 use Rattle.us_order.proofs.Partition.{PartitionOk}
-
--- THE WRITES OF A TRANSACTION'S OPERATIONS
-abbrev pub effect_for : Op → Option Effect
-effect_for RegisterRead = None
-effect_for (RegisterWrite v) = Some (effect.RegisterWrite v)
-
-abbrev pub writes_of : ℕ → List Done → List Write
-writes_of n [] = []
-writes_of n (d ∷ ds) = write_of d.item n (effect_for d.op) ++ writes_of (n + 1) ds
-
-pub writes_of-push : (ds : List Done) (n : ℕ) (d : Done) → writes_of n (ds ++ d ∷ []) ≡ writes_of n ds ++ write_of d.item (n + length ds) (effect_for d.op)
-writes_of-push [] n d = append-nil _ ∙ ap (λ k. write_of d.item k (effect_for d.op)) (omega arith)
-writes_of-push (x ∷ ds) n d =
-    let e : n + 1 + length ds ≡ n + length (x ∷ ds) = omega arith in
-    ap (λ l. write_of x.item n (effect_for x.op) ++ l) (writes_of-push ds (n + 1) d ∙ ap (λ k. writes_of (n + 1) ds ++ write_of d.item k (effect_for d.op)) e)
-    ∙ sym (append_assoc (write_of x.item n (effect_for x.op)) (writes_of (n + 1) ds) _)
-
-abbrev pub HasWrites : List Write → Type 0
-HasWrites [] = ⊥
-HasWrites (w ∷ ws) = Unit {0}
+use Rattle.us_order.proofs.Queue.{Ascends}
+use Rattle.us_order.proofs.Acts.{state_at, Fits, AllFits, writes_in, HasWrites, met_by, acts_of}
 
 -- THE OPERATIONS THAT WERE TOLD OF A TRANSACTION
 pub ops_of-append : (tid : Tid) (xs ys : List Performed) → ops_of tid (xs ++ ys) ≡ ops_of tid xs ++ ops_of tid ys
@@ -82,33 +62,35 @@ pub ops_of-still : (tid : Tid) (xs ys : List Performed) (g : GoesOn xs ys) → (
 ops_of-still tid xs ys g none = ap (ops_of tid) g.is ∙ ops_of-append tid xs g.rest ∙ ap (λ l. ops_of tid xs ++ l) (ops_of-none tid g.rest none) ∙ append-nil _
 
 -- ANSWERS
-abbrev pub state_at : List LogTx → Tid → List ℕ → Item → List (ℕ × Effect) → State
-state_at log tid snapshot item own = after_own tid (after_log item snapshot (initial (kind_of item.space)) log) own
-
 -- the answer is the log's at the snapshot, and then the operations' before it
-pub record IsTrueAnswer (p : Partition) (tid : Tid) (snapshot : List ℕ) (before : List Done) (a : Done) : Type 0 where
+pub record IsTrueAnswer (spaces : Spaces) (p : Partition) (tid : Tid) (snapshot : List ℕ) (before : List Done) (a : Done) : Type 0 where
   pub is_known : at_most snapshot (known me p) ≡ true
-  pub is : a.answer ≡ answered a.op (state_at p.log tid snapshot a.item (own_effects a.item (writes_of 1 before)))
+  pub fits : Fits spaces a.item a.op
+  pub is : a.answer ≡ answered a.op (met_by spaces p.log tid snapshot a.item (acts_of spaces p.log tid snapshot before))
 
-abbrev pub AllTrue : Partition → Tid → List ℕ → List Done → List Done → Type 0
-AllTrue p tid snapshot before [] = Unit {0}
-AllTrue p tid snapshot before (a ∷ rest) = IsTrueAnswer p tid snapshot before a × AllTrue p tid snapshot (before ++ a ∷ []) rest
+abbrev pub AllTrue : Spaces → Partition → Tid → List ℕ → List Done → List Done → Type 0
+AllTrue spaces p tid snapshot before [] = Unit {0}
+AllTrue spaces p tid snapshot before (a ∷ rest) = IsTrueAnswer spaces p tid snapshot before a × AllTrue spaces p tid snapshot (before ++ a ∷ []) rest
 
-pub AllTrue-push : (p : Partition) (tid : Tid) (sn : List ℕ) (before as' : List Done) (a : Done) → AllTrue p tid sn before as' → IsTrueAnswer p tid sn (before ++ as') a → AllTrue p tid sn before (as' ++ a ∷ [])
-AllTrue-push p tid sn before [] a h t = (subst (λ l. IsTrueAnswer p tid sn l a) (append-nil before) t, tt)
-AllTrue-push p tid sn before (x ∷ as') a h t = (h.0, AllTrue-push p tid sn (before ++ x ∷ []) as' a h.1 (subst (λ l. IsTrueAnswer p tid sn l a) (sym (append_assoc before (x ∷ []) as')) t))
+pub AllTrue-push : (spaces : Spaces) (p : Partition) (tid : Tid) (sn : List ℕ) (before as' : List Done) (a : Done) → AllTrue spaces p tid sn before as' → IsTrueAnswer spaces p tid sn (before ++ as') a → AllTrue spaces p tid sn before (as' ++ a ∷ [])
+AllTrue-push spaces p tid sn before [] a h t = (subst (λ l. IsTrueAnswer spaces p tid sn l a) (append-nil before) t, tt)
+AllTrue-push spaces p tid sn before (x ∷ as') a h t = (h.0, AllTrue-push spaces p tid sn (before ++ x ∷ []) as' a h.1 (subst (λ l. IsTrueAnswer spaces p tid sn l a) (sym (append_assoc before (x ∷ []) as')) t))
+
+pub AllTrue-fits : (spaces : Spaces) (p : Partition) (tid : Tid) (sn : List ℕ) (before as' : List Done) → AllTrue spaces p tid sn before as' → AllFits spaces as'
+AllTrue-fits spaces p tid sn before [] h = tt
+AllTrue-fits spaces p tid sn before (x ∷ as') h = (h.0.fits, AllTrue-fits spaces p tid sn (before ++ x ∷ []) as' h.1)
 
 -- THE PARTITION'S FACTS
 
 -- this answers a question that was sent
-pub record AnswersGet (p : Partition) (ms : List Message) (tid : Tid) (place at : ℕ) (f : Form) : Type 0 where
+pub record AnswersGet (spaces : Spaces) (p : Partition) (ms : List Message) (tid : Tid) (place at : ℕ) (f : Form) : Type 0 where
   pub snapshot : List ℕ
   pub item : Item
   pub op : Op
   pub own : List (ℕ × Effect)
   pub asked : In (message.Get tid place at snapshot item op own) ms
   pub is_known : at_most snapshot (known me p) ≡ true
-  pub is : f ≡ form.Answered (answered op (state_at p.log tid snapshot item own)) (effect_for op)
+  pub is : f ≡ form_for (answered op (state_at spaces p.log tid snapshot item own)) (prepared_effect (record { tid = tid; place = place }) op (state_at spaces p.log tid snapshot item own))
 
 pub record StillPrepared (qs : List PreparedTx) (tid : Tid) (ts : ℕ) : Type 0 where
   pub entry_of : PreparedTx
@@ -126,7 +108,7 @@ pub record DecidedAt (cs : List Committed) (tid : Tid) (vector : List ℕ) : Typ
   pub here : In decision cs
   pub tid_is : decision.begun.tid ≡ tid
   pub vector_is : decision.vector ≡ vector
-  pub has : HasWrites (writes_of 1 decision.ops)
+  pub has : is_stamped decision ≡ true
 
 pub record Promised (p : Partition) (cs : List Committed) (tid : Tid) (ts : ℕ) : Type 0 where
   pub done : In tid p.done
@@ -138,13 +120,21 @@ pub record IsBegun (bs : List Begun) (tid : Tid) (snapshot : List ℕ) : Type 0 
   pub tid_is : by.tid ≡ tid
   pub snapshot_is : by.snapshot ≡ snapshot
 
+-- a transaction that was begun asks for a version, by an operation of the item's kind
+pub record Asks (spaces : Spaces) (bs : List Begun) (tid : Tid) (snapshot : List ℕ) (item : Item) (op : Op) : Type 0 where
+  pub by : Begun
+  pub here : In by bs
+  pub tid_is : by.tid ≡ tid
+  pub snapshot_is : by.snapshot ≡ snapshot
+  pub fits : Fits spaces item op
+
 -- messages tell the truth
-abbrev pub IsTrue : Partition → Ledger → Message → Type 0
-IsTrue p l (message.Get tid place at snapshot item op own) = IsBegun l.history.begun tid snapshot
-IsTrue p l (message.Version v) = AnswersGet p l.messages v.tid v.place v.at v.form
-IsTrue p l (message.Prepare tid snapshot writes) = IsBegun l.history.begun tid snapshot
-IsTrue p l (message.Prepared tid ts) = Promised p l.history.committed tid ts
-IsTrue p l (message.Commit tid vector) = DecidedAt l.history.committed tid vector
+abbrev pub IsTrue : Spaces → Partition → Ledger → Message → Type 0
+IsTrue spaces p l (message.Get tid place at snapshot item op own) = Asks spaces l.history.begun tid snapshot item op
+IsTrue spaces p l (message.Version v) = AnswersGet spaces p l.messages v.tid v.place v.at v.form
+IsTrue spaces p l (message.Prepare tid snapshot writes) = IsBegun l.history.begun tid snapshot
+IsTrue spaces p l (message.Prepared tid ts) = Promised p l.history.committed tid ts
+IsTrue spaces p l (message.Commit tid vector) = DecidedAt l.history.committed tid vector
 
 pub record PreparedFacts (done_here : List Tid) (ms : List Message) (q : PreparedTx) : Type 0 where
   pub done : In q.tid done_here
@@ -152,56 +142,60 @@ pub record PreparedFacts (done_here : List Tid) (ms : List Message) (q : Prepare
   pub told : In (message.Prepared q.tid q.ts) ms
   pub above : entry q.snapshot 1 < q.ts
 
-pub record LogFacts (cs : List Committed) (e : LogTx) : Type 0 where
+-- the writes of a decided transaction, as this log has it
+abbrev pub writes_of : Spaces → List LogTx → Committed → List Write
+writes_of spaces log c = writes_in (acts_of spaces log c.begun.tid c.begun.snapshot c.ops)
+
+pub record LogFacts (spaces : Spaces) (log : List LogTx) (cs : List Committed) (e : LogTx) : Type 0 where
   pub decision : Committed
   pub here : In decision cs
   pub tid_is : decision.begun.tid ≡ e.tid
   pub vector_is : decision.vector ≡ e.vector
-  pub writes_is : writes_of 1 decision.ops ≡ e.writes
+  pub writes_is : writes_of spaces log decision ≡ e.writes
 
 pub record InLog (log : List LogTx) (c : Committed) : Type 0 where
   pub entry_of : LogTx
   pub here : In entry_of log
   pub tid_is : entry_of.tid ≡ c.begun.tid
   pub vector_is : entry_of.vector ≡ c.vector
-  pub writes_is : entry_of.writes ≡ writes_of 1 c.ops
 
 -- the numbers of a session's committed transactions are 1 and so on
 pub record Numbered (cs : List Committed) (c : Committed) : Type 0 where
   pub from_one : 1 ≤ c.number
   pub within : c.number ≤ committed_in c.begun.session cs
 
-pub record DecidedFacts (p : Partition) (l : Ledger) (c : Committed) : Type 0 where
+pub record DecidedFacts (spaces : Spaces) (p : Partition) (l : Ledger) (c : Committed) : Type 0 where
   pub begun : In c.begun l.history.begun
   pub ops : c.ops ≡ ops_of c.begun.tid l.history.performed
   pub grows : at_most c.begun.snapshot c.vector ≡ true
-  pub same : (HasWrites (writes_of 1 c.ops) → ⊥) → c.vector ≡ c.begun.snapshot
-  pub above : HasWrites (writes_of 1 c.ops) → entry c.begun.snapshot 1 < entry c.vector 1
-  pub asked : HasWrites (writes_of 1 c.ops) → In (message.Prepare c.begun.tid c.begun.snapshot (writes_of 1 c.ops)) l.messages
-  pub kept : HasWrites (writes_of 1 c.ops) → StillPrepared p.prepared c.begun.tid (entry c.vector 1) ⊎ InLog p.log c
+  pub same : (is_stamped c ≡ true → ⊥) → c.vector ≡ c.begun.snapshot
+  pub above : is_stamped c ≡ true → entry c.begun.snapshot 1 < entry c.vector 1
+  pub asked : is_stamped c ≡ true → In (message.Prepare c.begun.tid c.begun.snapshot (writes_of spaces p.log c)) l.messages
+  pub kept : is_stamped c ≡ true → StillPrepared p.prepared c.begun.tid (entry c.vector 1) ⊎ InLog p.log c
   pub small : entry c.vector 1 ≤ 2 ^ 62
   pub numbered : Numbered l.history.committed c
 
-pub record PartitionFacts (p : Partition) (l : Ledger) : Type 0 where
+pub record PartitionFacts (spaces : Spaces) (p : Partition) (l : Ledger) : Type 0 where
   pub ok : PartitionOk p
-  pub messages : (m : Message) → In m l.messages → IsTrue p l m
+  pub messages : (m : Message) → In m l.messages → IsTrue spaces p l m
   pub parked : (g : Get) → In g p.parked → In (message.Get g.tid g.place g.at g.snapshot g.item g.op g.own) l.messages
   pub prepared : (q : PreparedTx) → In q p.prepared → PreparedFacts p.done l.messages q
-  pub log : (e : LogTx) → In e p.log → LogFacts l.history.committed e
-  pub decided : (c : Committed) → In c l.history.committed → DecidedFacts p l c
-  pub answers : (b : Begun) → In b l.history.begun → AllTrue p b.tid b.snapshot [] (ops_of b.tid l.history.performed)
+  pub log : (e : LogTx) → In e p.log → LogFacts spaces p.log l.history.committed e
+  pub decided : (c : Committed) → In c l.history.committed → DecidedFacts spaces p l c
+  pub answers : (b : Begun) → In b l.history.begun → AllTrue spaces p b.tid b.snapshot [] (ops_of b.tid l.history.performed)
 
 -- WHAT SESSIONS SHARE
 
--- two messages that are to be one
+-- two messages that are to be one. An operation that is refused gives its place back, so that two questions of a transaction
+-- may be of one place; but they are of different frames
 abbrev pub SameKey : Message → Message → Type 0
-SameKey (message.Get t n a s i o w) (message.Get t' n' a' s' i' o' w') = (t ≡ t') × (n ≡ n')
+SameKey (message.Get t n a s i o w) (message.Get t' n' a' s' i' o' w') = (t ≡ t') × (n ≡ n') × (a ≡ a')
 SameKey (message.Prepare t s w) (message.Prepare t' s' w') = t ≡ t'
 SameKey (message.Prepared t n) (message.Prepared t' n') = t ≡ t'
 SameKey _ _ = ⊥
 
 pub SameKey-sym : (m m' : Message) → SameKey m m' → SameKey m' m
-SameKey-sym (message.Get t n a s i o w) (message.Get t' n' a' s' i' o' w') k = (sym k.0, sym k.1)
+SameKey-sym (message.Get t n a s i o w) (message.Get t' n' a' s' i' o' w') k = (sym k.0, sym k.1, sym k.2)
 SameKey-sym (message.Prepare t s w) (message.Prepare t' s' w') k = sym k
 SameKey-sym (message.Prepared t n) (message.Prepared t' n') k = sym k
 SameKey-sym _ _ k = absurd k
@@ -256,6 +250,7 @@ pub record HistoryFacts (last : ℕ) (h : History) : Type 0 where
   pub begun_form : (b : Begun) → In b h.begun → BegunForm last b
   pub performed : (q : Performed) → In q h.performed → OfBegun h.begun q.tid
   pub order : (c : Committed) (b : Begun) → In c h.committed → In b h.begun → c.begun.session ≡ b.session → c.begun.tid.seq < b.tid.seq → at_most c.vector b.snapshot ≡ true
+  pub apart : AllLater (λ (c d : Committed). c.begun.tid ≡ d.begun.tid → ⊥) h.committed
   pub decided_once : (c d : Committed) → In c h.committed → In d h.committed → c.begun.tid ≡ d.begun.tid → c ≡ d
   pub numbers : (c d : Committed) → In c h.committed → In d h.committed → c.begun.session ≡ d.begun.session → c.begun.tid.seq < d.begun.tid.seq → c.number < d.number
   pub stands : (c d : Committed) → In c h.committed → In d h.committed → c.begun.session ≡ d.begun.session → c.begun.tid.seq < d.begun.tid.seq → StandsEarlier c d h.committed
@@ -271,11 +266,6 @@ Waits l t waits.Nothing = Unit {0}
 Waits l t (waits.Version at place item op) = (place ≡ length t.ops + 1) × In (message.Get t.tid place at t.snapshot item op (own_effects item t.writes)) l.messages
 Waits l t (waits.Prepared at missing told) = HasWrites t.writes × (missing ≡ 1 ∷ []) × (told ≡ []) × In (message.Prepare t.tid t.snapshot t.writes) l.messages
 
-abbrev pub WaitsForPlace : Waiting → ℕ → Type 0
-WaitsForPlace waits.Nothing n = ⊥
-WaitsForPlace (waits.Version at place item op) n = place ≡ n
-WaitsForPlace (waits.Prepared at missing told) n = ⊥
-
 abbrev pub WaitsForPrepared : Waiting → Type 0
 WaitsForPrepared waits.Nothing = ⊥
 WaitsForPrepared (waits.Version at place item op) = ⊥
@@ -284,20 +274,24 @@ WaitsForPrepared (waits.Prepared at missing told) = Unit {0}
 abbrev pub begun_as : ℕ → Transaction → Begun
 begun_as n t = record { tid = t.tid; session = name n; snapshot = t.snapshot }
 
-pub record RunningFacts (l : Ledger) (n : ℕ) (w : Waiting) (t : Transaction) : Type 0 where
+-- the running transaction of session n, whose questions are of frames up to the last one that was performed
+pub record RunningFacts (spaces : Spaces) (log : List LogTx) (l : Ledger) (n last : ℕ) (w : Waiting) (t : Transaction) : Type 0 where
   pub begun : In (begun_as n t) l.history.begun
   pub ops : t.ops ≡ ops_of t.tid l.history.performed
-  pub writes : t.writes ≡ writes_of 1 t.ops
+  pub writes : t.writes ≡ writes_in (acts_of spaces log t.tid t.snapshot t.ops)
   pub after : (c : Committed) → In c l.history.committed → c.begun.session ≡ name n → c.begun.tid.seq < t.tid.seq
   pub latest : (b : Begun) → In b l.history.begun → b.session ≡ name n → b.tid.seq ≤ t.tid.seq
-  pub gets : (place at : ℕ) (sn : List ℕ) (i : Item) (o : Op) (own : List (ℕ × Effect)) → In (message.Get t.tid place at sn i o own) l.messages → (place ≤ length t.ops) ⊎ WaitsForPlace w place
+  pub gets : (place at : ℕ) (sn : List ℕ) (i : Item) (o : Op) (own : List (ℕ × Effect)) → In (message.Get t.tid place at sn i o own) l.messages → at ≤ last
   pub prepares : (sn : List ℕ) (ws : List Write) → In (message.Prepare t.tid sn ws) l.messages → WaitsForPrepared w
   pub waiting : Waits l t w
 
-pub record SessionFacts (l : Ledger) (n : ℕ) (past : List ℕ) (running : Option Transaction) (w : Waiting) : Type 0 where
+-- a session, and the last of its frames that was performed: those that wait came later
+pub record SessionFacts (spaces : Spaces) (log : List LogTx) (l : Ledger) (n : ℕ) (past : List ℕ) (running : Option Transaction) (w : Waiting) (asks : List Ask) (asked : ℕ) : Type 0 where
   pub covered : (c : Committed) → In c l.history.committed → c.begun.session ≡ name n → at_most c.vector past ≡ true
   pub small : entry past 1 ≤ 2 ^ 62
-  pub runs : (t : Transaction) → running ≡ Some t → RunningFacts l n w t
+  pub last : ℕ
+  pub queue : Ascends last asks asked
+  pub runs : (t : Transaction) → running ≡ Some t → RunningFacts spaces log l n last w t
 
 -- GROWTH
 
@@ -377,8 +371,8 @@ apart_of last h n m tid b all o i e f =
 name-one : (n m : ℕ) (s : SessionName) → s ≡ name n → s ≡ name m → n ≡ m
 name-one n m s e f = ap (λ (x : SessionName). x.number) (sym e ∙ f)
 
-pub running_frame : (n m : ℕ) (l l' : Ledger) (w : Waiting) (t : Transaction) → SharedFacts l' → Grows n l l' → (n ≡ m → ⊥) → RunningFacts l m w t → RunningFacts l' m w t
-running_frame n m l l' w t all g apart h =
+running_frame : (spaces : Spaces) (log : List LogTx) (n m last : ℕ) (l l' : Ledger) (w : Waiting) (t : Transaction) → SharedFacts l' → Grows n l l' → (n ≡ m → ⊥) → RunningFacts spaces log l m last w t → RunningFacts spaces log l' m last w t
+running_frame spaces log n m last l l' w t all g apart h =
     let mine = in_later _ g.begun h.begun in
     record {
       begun = mine;
@@ -391,9 +385,11 @@ running_frame n m l l' w t all g apart h =
       waiting = waits-later l l' t w g.messages h.waiting;
     }
 
-pub session_frame : (n m : ℕ) (l l' : Ledger) (past : List ℕ) (running : Option Transaction) (w : Waiting) → SharedFacts l' → Grows n l l' → (n ≡ m → ⊥) → SessionFacts l m past running w → SessionFacts l' m past running w
-session_frame n m l l' past running w all g apart h = record {
+pub session_frame : (spaces : Spaces) (log : List LogTx) (n m : ℕ) (l l' : Ledger) (past : List ℕ) (running : Option Transaction) (w : Waiting) (asks : List Ask) (asked : ℕ) → SharedFacts l' → Grows n l l' → (n ≡ m → ⊥) → SessionFacts spaces log l m past running w asks asked → SessionFacts spaces log l' m past running w asks asked
+session_frame spaces log n m l l' past running w asks asked all g apart h = record {
   covered = λ c i e. ⊎_elim (λ j. h.covered c j e) (λ j. absurd (apart (name-one n m _ (g.decides c j) e))) (in_grown c g.committed i);
   small = h.small;
-  runs = λ t e. running_frame n m l l' w t all g apart (h.runs t e);
+  last = h.last;
+  queue = h.queue;
+  runs = λ t e. running_frame spaces log n m h.last l l' w t all g apart (h.runs t e);
 }

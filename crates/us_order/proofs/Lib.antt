@@ -1,5 +1,7 @@
 pub mod Ledgers
 pub mod Partition
+pub mod Acts
+pub mod Queue
 pub mod Facts
 pub mod Sessions
 pub mod Runs
@@ -7,9 +9,9 @@ pub mod Each
 pub mod Moves
 pub mod World
 pub mod Pasts
-pub mod Order
 pub mod Entries
 pub mod Closed
 pub mod Direct
-pub mod Visible
+pub mod Seen
+pub mod Valued
 pub mod Por

@@ -1,12 +1,16 @@
 -- What no step of the partition takes back.
-use Rattle.std.proofs.Common.{◌≡◌, inl, inr, ⊎_elim, ◌⊎◌, ℕ, zero, suc, ◌<◌, ◌≤◌, ◌^◌, List, [], ◌∷◌, ◌++◌, append-nil, Bool, true, false, refl, sym, ap, ◌∙◌, arith, cond}
+use Rattle.std.proofs.Common.{◌≡◌, inl, inr, ⊎_elim, ◌⊎◌, ℕ, zero, suc, ◌<◌, ◌≤◌, ◌^◌, List, [], ◌∷◌, ◌++◌, append-nil, Bool, true, false, refl, sym, ap, ◌∙◌, subst, arith, cond}
 use Rattle.std.specs.Prelude.{Some, None, Option, nat_le, slice_get, remove, position}
 use Rattle.std.proofs.lemmas.Bool.{cond_both, leb-true}
 use Rattle.std.proofs.lemmas.List.Quantifiers.{position-Some}
 use Rattle.std.proofs.lemmas.Option.{get_or_from_slice_get}
 use Rattle.us_kind.specs.Words.{In}
 use Rattle.us_kind.specs.declared.identity.Tid.{Tid}
-use Rattle.us_kind.proofs.ListLemmas.{in_push, in_append, GoesOn, goes_by, goes_further, in_got}
+use Rattle.us_kind.specs.Updates.{AllLater}
+use Rattle.us_kind.specs.Histories.{all_from}
+use Rattle.us_kind.specs.Ascending.{all_in}
+use Rattle.us_kind.proofs.Members.{later_push}
+use Rattle.us_kind.proofs.ListLemmas.{in_push, in_append, in_front, in_last, in_split, GoesOn, goes_by, goes_further, in_got}
 use Rattle.us_base.specs.Vector.{entry, at_most, sum_of, zero as no_vector}
 use Rattle.us_base.proofs.Vectors.{at_most-true, entry-with_same}
 use Rattle.us_value.specs.declared.item.Item.{Item}
@@ -23,8 +27,17 @@ pub next_timestamp-above : (r n : ℕ) → n < next_timestamp r n
 unfolding next_timestamp
 next_timestamp-above r n = omega arith
 
+-- a transaction stands once among those that are prepared and those of the log, and was prepared here
+pub record EachOnce (done : List Tid) (log : List LogTx) (prepared : List PreparedTx) : Type 0 where
+  pub prepared_done : (q : PreparedTx) → In q prepared → In q.tid done
+  pub log_done : (e : LogTx) → In e log → In e.tid done
+  pub prepared_apart : AllLater (λ (q r : PreparedTx). q.tid ≡ r.tid → ⊥) prepared
+  pub log_apart : AllLater (λ (e f : LogTx). e.tid ≡ f.tid → ⊥) log
+  pub apart : (q : PreparedTx) (e : LogTx) → In q prepared → In e log → q.tid ≡ e.tid → ⊥
+
 -- what holds of each partition
 pub record PartitionOk (p : Partition) : Type 0 where
+  pub once : EachOnce p.done p.log p.prepared
   pub below_clock : (q : PreparedTx) → In q p.prepared → q.ts ≤ p.clock
   pub positive : (q : PreparedTx) → In q p.prepared → 0 < q.ts
   pub small : p.clock ≤ 2 ^ 62
@@ -80,14 +93,27 @@ later_further g h = record { knows = omega arith; log = goes_further g.log h.log
 
 -- GET
 pub get_keeps : (p : Partition) (g : Get) → entry g.snapshot 1 ≤ 2 ^ 62 → PartitionOk p → PartitionOk (get me p g)
-get_keeps p g small h = record { below_clock = λ q i. omega (arith, h.below_clock q i); positive = h.positive; small = omega (arith, h.small); got = h.got }
+get_keeps p g small h = record { once = h.once; below_clock = λ q i. omega (arith, h.below_clock q i); positive = h.positive; small = omega (arith, h.small); got = h.got }
 
 pub get_later : (p : Partition) (g : Get) → PartitionOk p → Later p (get me p g)
 get_later p g h = later_same _ _ (own_known-above _ _ p.prepared (omega (arith, own_known-clock p.clock p.prepared h.below_clock)) (λ q i. own_known-below _ _ q i (h.positive q i))) refl refl
 
 -- PREPARE
-pub prepared_keeps : (p : Partition) (tid : Tid) (snapshot : List ℕ) (writes : List Write) → timestamp_for me p snapshot ≤ 2 ^ 62 → PartitionOk p → PartitionOk (prepared me p tid snapshot writes)
-prepared_keeps p tid snapshot writes small h = record {
+prepared_once : (done : List Tid) (log : List LogTx) (prepared : List PreparedTx) (q : PreparedTx) → (In q.tid done → ⊥) → EachOnce done log prepared → EachOnce (done ++ q.tid ∷ []) log (prepared ++ q ∷ [])
+prepared_once done log prepared q new h = record {
+  prepared_done = in_push (λ (r : PreparedTx). In r.tid (done ++ q.tid ∷ [])) prepared q (λ r i. in_front r.tid done (q.tid ∷ []) (h.prepared_done r i)) (in_last done q.tid);
+  log_done = λ e i. in_front e.tid done (q.tid ∷ []) (h.log_done e i);
+  prepared_apart = later_push (λ (x y : PreparedTx). x.tid ≡ y.tid → ⊥) prepared q h.prepared_apart (λ r i e. new (subst (λ t. In t done) e (h.prepared_done r i)));
+  log_apart = h.log_apart;
+  apart = λ r e i j same. ⊎_elim
+      (λ k. h.apart r e k j same)
+      (λ k. new (subst (λ t. In t done) (sym (ap (λ (x : PreparedTx). x.tid) k ∙ same)) (h.log_done e j)))
+      (in_split r prepared q i);
+}
+
+pub prepared_keeps : (p : Partition) (tid : Tid) (snapshot : List ℕ) (writes : List Write) → timestamp_for me p snapshot ≤ 2 ^ 62 → (In tid p.done → ⊥) → PartitionOk p → PartitionOk (prepared me p tid snapshot writes)
+prepared_keeps p tid snapshot writes small new h = record {
+  once = prepared_once p.done p.log p.prepared (record { tid = tid; ts = timestamp_for me p snapshot; snapshot = snapshot; writes = writes }) new h.once;
   below_clock = in_push (λ q. q.ts ≤ timestamp_for me p snapshot) p.prepared _ (λ q i. omega (arith, h.below_clock q i, next_timestamp-above)) (omega arith);
   positive = in_push (λ q. 0 < q.ts) p.prepared _ h.positive (omega (arith, next_timestamp-above));
   small = small;
@@ -116,9 +142,37 @@ removed_in (z ∷ xs) zero x y e (inr h) = inl h
 removed_in (z ∷ xs) (suc k) x y e (inl s) = inl (inl s)
 removed_in (z ∷ xs) (suc k) x y e (inr h) = ⊎_elim (λ a. inl (inr a)) (λ b. inr b) (removed_in xs k x y e h)
 
+later_removed : {X : Type 0} (R : X → X → Type 0) (xs : List X) (k : ℕ) → AllLater R xs → AllLater R (remove xs k)
+later_removed R [] zero h = h
+later_removed R [] (suc k) h = h
+later_removed R (x ∷ xs) zero h = h.1
+later_removed R (x ∷ xs) (suc k) h = (all_from (R x) (remove xs k) (λ y i. all_in (R x) xs y h.0 (in_removed xs k y i)), later_removed R xs k h.1)
+
+-- what was taken out is of another transaction than those that are left
+removed_apart : (xs : List PreparedTx) (k : ℕ) (q x : PreparedTx) → slice_get xs k ≡ Some q → AllLater (λ (y z : PreparedTx). y.tid ≡ z.tid → ⊥) xs → In x (remove xs k) → q.tid ≡ x.tid → ⊥
+removed_apart [] k q x e h i same = absurd (let f = in_got [] k q e in f)
+removed_apart (y ∷ xs) zero q x e h i same = let f : y ≡ q = cc in all_in (λ (z : PreparedTx). y.tid ≡ z.tid → ⊥) xs x h.0 i (ap (λ (z : PreparedTx). z.tid) f ∙ same)
+removed_apart (y ∷ xs) (suc k) q x e h (inl s) same = all_in (λ (z : PreparedTx). y.tid ≡ z.tid → ⊥) xs q h.0 (in_got xs k q e) (ap (λ (z : PreparedTx). z.tid) s ∙ sym same)
+removed_apart (y ∷ xs) (suc k) q x e h (inr i) same = removed_apart xs k q x e h.1 i same
+
 -- COMMIT
-pub committed_keeps : (p : Partition) (v : List ℕ) (i : ℕ) (q : PreparedTx) → entry v 1 ≤ 2 ^ 62 → PartitionOk p → PartitionOk (committed me p v i q)
-committed_keeps p v i q small h = record {
+committed_once : (done : List Tid) (log : List LogTx) (prepared : List PreparedTx) (i : ℕ) (q : PreparedTx) (new : LogTx) → slice_get prepared i ≡ Some q → new.tid ≡ q.tid → EachOnce done log prepared → EachOnce done (log ++ new ∷ []) (remove prepared i)
+committed_once done log prepared i q new got same h =
+    let here = in_got prepared i q got in
+    record {
+      prepared_done = λ r j. h.prepared_done r (in_removed prepared i r j);
+      log_done = in_push (λ (e : LogTx). In e.tid done) log new h.log_done (subst (λ t. In t done) (sym same) (h.prepared_done q here));
+      prepared_apart = later_removed (λ (x y : PreparedTx). x.tid ≡ y.tid → ⊥) prepared i h.prepared_apart;
+      log_apart = later_push (λ (e f : LogTx). e.tid ≡ f.tid → ⊥) log new h.log_apart (λ e j f. h.apart q e here j (sym (f ∙ same)));
+      apart = λ r e j k f. ⊎_elim
+          (λ m. h.apart r e (in_removed prepared i r j) m f)
+          (λ m. removed_apart prepared i q r got h.prepared_apart j (sym (f ∙ sym (ap (λ (x : LogTx). x.tid) m) ∙ same)))
+          (in_split e log new k);
+    }
+
+pub committed_keeps : (p : Partition) (v : List ℕ) (i : ℕ) (q : PreparedTx) → entry v 1 ≤ 2 ^ 62 → slice_get p.prepared i ≡ Some q → PartitionOk p → PartitionOk (committed me p v i q)
+committed_keeps p v i q small got h = record {
+  once = committed_once p.done p.log p.prepared i q (record { tid = q.tid; strong = false; vector = v; writes = q.writes }) got refl h.once;
   below_clock = λ r j. omega (arith, h.below_clock r (in_removed p.prepared i r j));
   positive = λ r j. h.positive r (in_removed p.prepared i r j);
   small = omega (arith, h.small);

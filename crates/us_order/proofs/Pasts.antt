@@ -1,5 +1,5 @@
 -- What is before a transaction, in one step.
-use Rattle.std.proofs.Common.{◌≡◌, ◌⊎◌, inl, inr, ⊎_elim, ℕ, zero, suc, ◌+◌, ◌<◌, ◌≤◌, List, [], ◌∷◌, ◌++◌, length, Bool, true, false, ◌&&◌, ◌||◌, refl, sym, ap, ◌∙◌, subst, arith, max, cond, true≢false}
+use Rattle.std.proofs.Common.{◌≡◌, ◌⊎◌, inl, inr, ⊎_elim, ℕ, zero, suc, ◌<◌, ◌≤◌, List, [], ◌∷◌, length, Bool, true, false, ◌&&◌, ◌||◌, refl, sym, ap, ◌∙◌, subst, arith, max, cond, true≢false}
 use Rattle.std.specs.Prelude.{nat_lt, nat_le, not}
 use Rattle.std.specs.List.{list_any}
 use Rattle.std.proofs.lemmas.Bool.{and_parts, and_from, eqb-true, leb-true, le-leb, not-true, lt-ltb}
@@ -8,18 +8,13 @@ use Rattle.us_kind.specs.Words.{In, tid_eq}
 use Rattle.us_kind.proofs.TestLemmas.{tid_eq-true, tid_eq-same}
 use Rattle.us_base.specs.Vector.{entry, at_most}
 use Rattle.us_base.proofs.Vectors.{at_most-true, at_most-trans}
-use Rattle.us_value.specs.declared.operation.Op.{Op}
-use Rattle.us_value.specs.declared.operation.Op.TheVariants.{RegisterRead, RegisterWrite}
-use Rattle.us_value.specs.Values.{is_update}
 use Rattle.us_exec.specs.declared.SessionName.{SessionName}
-use Rattle.us_exec.specs.declared.Done.{Done}
 use Rattle.us_exec.specs.Past.{session_eq, count_in, is_before}
-use Rattle.us_model.specs.State.{Partition}
-use Rattle.us_model.specs.Sessions.{write_of}
+use Rattle.us_model.specs.State.{Partition, Spaces}
 use Rattle.us_model.specs.Executions.{Begun, Committed, is_stamped, leads, reaches_within, reaches, count_from, session_less, with_session, sessions_of, counts, past_of, entry_of}
 use Rattle.us_order.specs.Pasts.{direct_count}
 use Rattle.us_order.proofs.Ledgers.{Ledger}
-use Rattle.us_order.proofs.Facts.{effect_for, writes_of, HasWrites, PartitionFacts, SharedFacts}
+use Rattle.us_order.proofs.Facts.{PartitionFacts, SharedFacts}
 
 -- TESTS
 pub session_eq-true : (a b : SessionName) → session_eq a b ≡ true → a ≡ b
@@ -58,29 +53,6 @@ found-any test [] x h e = absurd h
 found-any test (y ∷ xs) x (inl s) e = or_left _ _ (ap test s ∙ e)
 found-any test (y ∷ xs) x (inr h) e = or_right _ _ (found-any test xs x h e)
 
--- WHO UPDATES HAS WRITES
-writes_any : (n : ℕ) (ds : List Done) → list_any (λ (d : Done). is_update d.op) ds ≡ true → HasWrites (writes_of n ds)
-writes_any n [] h = absurd (true≢false (sym h))
-writes_any n (d ∷ ds) h = on d.op h (writes_any (n + 1) ds)
-  where
-    on : (o : Op) → (is_update o || list_any (λ (d : Done). is_update d.op) ds) ≡ true → (list_any (λ (d : Done). is_update d.op) ds ≡ true → HasWrites (writes_of (n + 1) ds)) → HasWrites (write_of d.item n (effect_for o) ++ writes_of (n + 1) ds)
-    on RegisterRead h again = again h
-    on (RegisterWrite v) h again = tt
-
-any_writes : (n : ℕ) (ds : List Done) → HasWrites (writes_of n ds) → list_any (λ (d : Done). is_update d.op) ds ≡ true
-any_writes n [] h = absurd h
-any_writes n (d ∷ ds) h = on d.op h (any_writes (n + 1) ds)
-  where
-    on : (o : Op) → HasWrites (write_of d.item n (effect_for o) ++ writes_of (n + 1) ds) → (HasWrites (writes_of (n + 1) ds) → list_any (λ (d : Done). is_update d.op) ds ≡ true) → (is_update o || list_any (λ (d : Done). is_update d.op) ds) ≡ true
-    on RegisterRead h again = again h
-    on (RegisterWrite v) h again = refl
-
-pub stamped-has : (c : Committed) → is_stamped c ≡ true → HasWrites (writes_of 1 c.ops)
-stamped-has c e = writes_any 1 c.ops e
-
-pub has-stamped : (c : Committed) → HasWrites (writes_of 1 c.ops) → is_stamped c ≡ true
-has-stamped c h = any_writes 1 c.ops h
-
 -- ONE STEP
 pub record Leads (c : Committed) (t : Begun) : Type 0 where
   pub other : c.begun.tid ≡ t.tid → ⊥
@@ -106,32 +78,32 @@ leads-from c t h = and_from _ _ (not-from _ (λ e. h.other (tid_eq-true _ _ e)))
     (⊎_elim (λ a. or_left _ _ (and_from _ _ (ap (λ s. session_eq s t.session) a.0 ∙ session_eq-same t.session) (lt-ltb _ _ a.1))) (λ b. or_right _ _ (and_from _ _ b.0 b.1)) h.by)
 
 -- what leads to a transaction is at most its snapshot
-pub leads_below : (p : Partition) (l : Ledger) → PartitionFacts p l → SharedFacts l → (c : Committed) (t : Begun) → In c l.history.committed → In t l.history.begun → Leads c t → at_most c.vector t.snapshot ≡ true
-leads_below p l part all c t i j h = ⊎_elim (λ a. all.told.order c t i j a.0 a.1) (λ b. b.1) h.by
+pub leads_below : (spaces : Spaces) (p : Partition) (l : Ledger) → PartitionFacts spaces p l → SharedFacts l → (c : Committed) (t : Begun) → In c l.history.committed → In t l.history.begun → Leads c t → at_most c.vector t.snapshot ≡ true
+leads_below spaces p l part all c t i j h = ⊎_elim (λ a. all.told.order c t i j a.0 a.1) (λ b. b.1) h.by
 
-pub reaches_below : (p : Partition) (l : Ledger) → PartitionFacts p l → SharedFacts l → (n : ℕ) (c : Committed) (t : Begun) → In c l.history.committed → In t l.history.begun → reaches_within n l.history.committed c t ≡ true → at_most c.vector t.snapshot ≡ true
-reaches_below p l part all zero c t i j h = leads_below p l part all c t i j (leads-true c t h)
-reaches_below p l part all (suc n) c t i j h = ⊎_elim
-    (λ a. leads_below p l part all c t i j (leads-true c t a))
-    (λ b. through p l part all c t i (any-found _ l.history.committed b) (λ d k e. reaches_below p l part all n d t k j e))
+pub reaches_below : (spaces : Spaces) (p : Partition) (l : Ledger) → PartitionFacts spaces p l → SharedFacts l → (n : ℕ) (c : Committed) (t : Begun) → In c l.history.committed → In t l.history.begun → reaches_within n l.history.committed c t ≡ true → at_most c.vector t.snapshot ≡ true
+reaches_below spaces p l part all zero c t i j h = leads_below spaces p l part all c t i j (leads-true c t h)
+reaches_below spaces p l part all (suc n) c t i j h = ⊎_elim
+    (λ a. leads_below spaces p l part all c t i j (leads-true c t a))
+    (λ b. through p l part all c t i (any-found _ l.history.committed b) (λ d k e. reaches_below spaces p l part all n d t k j e))
     (or_parts _ _ h)
   where
-    through : (p : Partition) (l : Ledger) → PartitionFacts p l → SharedFacts l → (c : Committed) (t : Begun) → In c l.history.committed → (f : Found (λ d. leads c d.begun && reaches_within n l.history.committed d t) l.history.committed) → ((d : Committed) → In d l.history.committed → reaches_within n l.history.committed d t ≡ true → at_most d.vector t.snapshot ≡ true) → at_most c.vector t.snapshot ≡ true
+    through : (p : Partition) (l : Ledger) → PartitionFacts spaces p l → SharedFacts l → (c : Committed) (t : Begun) → In c l.history.committed → (f : Found (λ d. leads c d.begun && reaches_within n l.history.committed d t) l.history.committed) → ((d : Committed) → In d l.history.committed → reaches_within n l.history.committed d t ≡ true → at_most d.vector t.snapshot ≡ true) → at_most c.vector t.snapshot ≡ true
     through p l part all c t i f again =
         let d = f.item in
         let e = and_parts _ _ f.passes in
         let df = part.decided d f.here in
         at_most-trans c.vector d.vector t.snapshot
-        (at_most-trans c.vector d.begun.snapshot d.vector (leads_below p l part all c d.begun i df.begun (leads-true c d.begun e.0)) df.grows)
+        (at_most-trans c.vector d.begun.snapshot d.vector (leads_below spaces p l part all c d.begun i df.begun (leads-true c d.begun e.0)) df.grows)
         (again d f.here e.1)
 
 -- a transaction that updates isn't at most its own snapshot
-pub not_own : (p : Partition) (l : Ledger) → PartitionFacts p l → SharedFacts l → (c : Committed) (t : Begun) → In c l.history.committed → In t l.history.begun → is_stamped c ≡ true → at_most c.vector t.snapshot ≡ true → c.begun.tid ≡ t.tid → ⊥
-not_own p l part all c t i j st below e =
+pub not_own : (spaces : Spaces) (p : Partition) (l : Ledger) → PartitionFacts spaces p l → SharedFacts l → (c : Committed) (t : Begun) → In c l.history.committed → In t l.history.begun → is_stamped c ≡ true → at_most c.vector t.snapshot ≡ true → c.begun.tid ≡ t.tid → ⊥
+not_own spaces p l part all c t i j st below e =
     let f = part.decided c i in
     let same = all.told.begun_once c.begun t f.begun j e in
     let k : entry c.begun.snapshot 1 ≡ entry t.snapshot 1 = ap (λ (x : Begun). entry x.snapshot 1) same in
-    omega (arith, f.above (stamped-has c st), at_most-true c.vector t.snapshot below 1)
+    omega (arith, f.above st, at_most-true c.vector t.snapshot below 1)
 
 -- BEFORE, IN ONE STEP: a transaction of the same session, this one or a later, leads to t
 pub record BeforeBy (cs : List Committed) (c : Committed) (t : Begun) : Type 0 where
@@ -141,17 +113,17 @@ pub record BeforeBy (cs : List Committed) (c : Committed) (t : Begun) : Type 0 w
   pub number : c.number ≤ by.number
   pub leads_to : Leads by t
 
-pub direct : (p : Partition) (l : Ledger) → PartitionFacts p l → SharedFacts l → (n : ℕ) (c : Committed) (t : Begun) → In c l.history.committed → In t l.history.begun → reaches_within n l.history.committed c t ≡ true → BeforeBy l.history.committed c t
-direct p l part all zero c t i j h = record { by = c; here = i; session = refl; number = omega arith; leads_to = leads-true c t h }
-direct p l part all (suc n) c t i j h = ⊎_elim
+pub direct : (spaces : Spaces) (p : Partition) (l : Ledger) → PartitionFacts spaces p l → SharedFacts l → (n : ℕ) (c : Committed) (t : Begun) → In c l.history.committed → In t l.history.begun → reaches_within n l.history.committed c t ≡ true → BeforeBy l.history.committed c t
+direct spaces p l part all zero c t i j h = record { by = c; here = i; session = refl; number = omega arith; leads_to = leads-true c t h }
+direct spaces p l part all (suc n) c t i j h = ⊎_elim
     (λ a. record { by = c; here = i; session = refl; number = omega arith; leads_to = leads-true c t a })
-    (λ b. on p l part all c t i j h (any-found _ l.history.committed b) (λ d k e. direct p l part all n d t k j e) (is_stamped c) refl)
+    (λ b. on p l part all c t i j h (any-found _ l.history.committed b) (λ d k e. direct spaces p l part all n d t k j e) (is_stamped c) refl)
     (or_parts _ _ h)
   where
-    on : (p : Partition) (l : Ledger) → PartitionFacts p l → SharedFacts l → (c : Committed) (t : Begun) → In c l.history.committed → In t l.history.begun → reaches_within (suc n) l.history.committed c t ≡ true → (f : Found (λ d. leads c d.begun && reaches_within n l.history.committed d t) l.history.committed) → ((d : Committed) → In d l.history.committed → reaches_within n l.history.committed d t ≡ true → BeforeBy l.history.committed d t) → (s : Bool) → is_stamped c ≡ s → BeforeBy l.history.committed c t
+    on : (p : Partition) (l : Ledger) → PartitionFacts spaces p l → SharedFacts l → (c : Committed) (t : Begun) → In c l.history.committed → In t l.history.begun → reaches_within (suc n) l.history.committed c t ≡ true → (f : Found (λ d. leads c d.begun && reaches_within n l.history.committed d t) l.history.committed) → ((d : Committed) → In d l.history.committed → reaches_within n l.history.committed d t ≡ true → BeforeBy l.history.committed d t) → (s : Bool) → is_stamped c ≡ s → BeforeBy l.history.committed c t
     on p l part all c t i j h f again true st =
-        let below = reaches_below p l part all (suc n) c t i j h in
-        record { by = c; here = i; session = refl; number = omega arith; leads_to = record { other = not_own p l part all c t i j st below; by = inr (st, below) } }
+        let below = reaches_below spaces p l part all (suc n) c t i j h in
+        record { by = c; here = i; session = refl; number = omega arith; leads_to = record { other = not_own spaces p l part all c t i j st below; by = inr (st, below) } }
     on p l part all c t i j h f again false st =
         let d = f.item in
         let e = and_parts _ _ f.passes in
@@ -237,10 +209,10 @@ direct_count-is s t (c ∷ cs) = on (session_eq c.begun.session s && leads c t) 
     on false e = e
 
 -- what reaches a transaction counts as what leads to it
-pub count_direct : (p : Partition) (l : Ledger) → PartitionFacts p l → SharedFacts l → (s : SessionName) (t : Begun) → In t l.history.begun → count_from s l.history.committed t l.history.committed ≡ direct_count s t l.history.committed
-count_direct p l part all s t j =
+pub count_direct : (spaces : Spaces) (p : Partition) (l : Ledger) → PartitionFacts spaces p l → SharedFacts l → (s : SessionName) (t : Begun) → In t l.history.begun → count_from s l.history.committed t l.history.committed ≡ direct_count s t l.history.committed
+count_direct spaces p l part all s t j =
     let cs = l.history.committed in
-    let more = count_by-le (λ c. reaches cs c t) (λ c. leads c t) s cs (λ c i e r. let d = direct p l part all (length cs) c t i j r in record { by = d.by; here = d.here; session = d.session ∙ e; passes = leads-from d.by t d.leads_to; number = d.number }) in
+    let more = count_by-le (λ c. reaches cs c t) (λ c. leads c t) s cs (λ c i e r. let d = direct spaces p l part all (length cs) c t i j r in record { by = d.by; here = d.here; session = d.session ∙ e; passes = leads-from d.by t d.leads_to; number = d.number }) in
     let less = count_by-le (λ c. leads c t) (λ c. reaches cs c t) s cs (λ c i e r. record { by = c; here = i; session = e; passes = reaches-from (length cs) cs c t r; number = omega arith }) in
     let a = count_from-is s cs t cs in
     let b = direct_count-is s t cs in
@@ -301,15 +273,15 @@ session_in c (d ∷ cs) (inl e) = subst (λ (x : Committed). In x.begun.session 
 session_in c (d ∷ cs) (inr h) = in_with_old c.begun.session d.begun.session (sessions_of cs) (session_in c cs h)
 
 -- BEFORE, of entries
-pub before-by : (p : Partition) (l : Ledger) → PartitionFacts p l → SharedFacts l → (c : Committed) (t : Begun) → In c l.history.committed → In t l.history.begun → is_before (entry_of l.history.committed c) (past_of l.history.committed t) ≡ true → BeforeBy l.history.committed c t
-before-by p l part all c t i j h =
+pub before-by : (spaces : Spaces) (p : Partition) (l : Ledger) → PartitionFacts spaces p l → SharedFacts l → (c : Committed) (t : Begun) → In c l.history.committed → In t l.history.begun → is_before (entry_of l.history.committed c) (past_of l.history.committed t) ≡ true → BeforeBy l.history.committed c t
+before-by spaces p l part all c t i j h =
     let cs = l.history.committed in
     let s = c.begun.session in
     let le = leb-true c.number (count_in s (past_of cs t)) h in
     let most = counts-most cs t s (sessions_of cs) in
     let is = count_from-is s cs t cs in
     let f = count_by-found (λ x. reaches cs x t) s cs c.number (part.decided c i).numbered.from_one (omega arith) in
-    let d = direct p l part all (length cs) f.by t f.here j f.passes in
+    let d = direct spaces p l part all (length cs) f.by t f.here j f.passes in
     let a = f.number in
     let b = d.number in
     record { by = d.by; here = d.here; session = d.session ∙ f.session; number = omega arith; leads_to = d.leads_to }
@@ -342,11 +314,11 @@ session_here s (r ∷ rs) = on (session_eq r s) refl (session_here s rs)
     on false e (inr h) = inr (λ i. ⊎_elim (λ k. true≢false (sym (ap (λ x. session_eq x s) k ∙ session_eq-same s) ∙ e)) h i)
 
 -- a past's count of a session is the direct one
-pub past-counts : (p : Partition) (l : Ledger) → PartitionFacts p l → SharedFacts l → (s : SessionName) (t : Begun) → In t l.history.begun → count_in s (past_of l.history.committed t) ≡ direct_count s t l.history.committed
-past-counts p l part all s t j =
+pub past-counts : (spaces : Spaces) (p : Partition) (l : Ledger) → PartitionFacts spaces p l → SharedFacts l → (s : SessionName) (t : Begun) → In t l.history.begun → count_in s (past_of l.history.committed t) ≡ direct_count s t l.history.committed
+past-counts spaces p l part all s t j =
     let cs = l.history.committed in
     let most = counts-most cs t s (sessions_of cs) in
-    let same = count_direct p l part all s t j in
+    let same = count_direct spaces p l part all s t j in
     ⊎_elim
     (λ i. let least = counts-least cs t s (sessions_of cs) i in omega arith)
     (λ h. let none = no_count s cs t cs h in omega arith)

@@ -1,10 +1,13 @@
 //! The partitions' answers come to a session.
-ghost use Rattle.std.specs.Prelude.{◌≡◌, ◌<◌, ◌==◌, ◌&&◌, not, IfOk, OnOk, Some};
+ghost use Rattle.std.specs.Prelude.{◌≡◌, ◌<◌, ◌++◌, ◌∷◌, [], ◌==◌, ◌&&◌, not, nat_le, IfOk, OnOk, Some};
+ghost use Rattle.std.specs.Option.{option_to_list};
+ghost use Rattle.us_value.specs.Lengths.{capped};
 ghost use Rattle.std.specs.List.{list_any};
 ghost use Rattle.us_kind.specs.Words.{tid_eq};
-ghost use Rattle.us_model.specs.Sessions.{is_awaited, recorded_by, version, without, greatest, told_all, prepared, prepared_in};
+ghost use Rattle.us_model.specs.Sessions.{tell, with_note, is_awaited, write_of, writes_length, turned_down, recorded_by, version, without, greatest, told_all, prepared, prepared_in};
 
-use crate::session::{HOME, end, send, tell_client};
+use crate::reading::MOST_WRITES;
+use crate::session::{ANSWER_TOO_LONG, HOME, WRITES_TOO_LONG, end, refuse, send, tell_client};
 use std::alloc::Global;
 use std::mem;
 use us_client_wire::Reply;
@@ -12,13 +15,49 @@ use us_exec::Done;
 use us_kind::{Items, Memory, Tid};
 use us_model::{Desk, Note, PreparedAt, Session, Transaction, Waiting};
 use us_peer_wire::{Form, Message, Version};
-use us_value::{Answer, Item, Op, Write};
+use us_value::{Answer, Effect, Item, Op, Write, write_len};
 
 /// Whether the transaction's operation at this place, asked for by this request, waits for the version.
 fn awaits(version: &Version, at: u64, place: u8, transaction: &Transaction) -> bool
     ensures { result ≡ is_awaited version.now at place transaction.now }
 {
     transaction.tid.same(&version.tid) && at == version.at && place == version.place
+}
+
+/// The write that an operation made, if it updates.
+fn new_write(item: &Item, place: u8, effect: &Option<Effect>) -> Result<Option<Write>, Memory>
+    ensures { IfOk result (λ write. option_to_list write ≡ write_of item.now place effect.now) }
+{
+    match effect {
+        None => Ok(None),
+        Some(effect) => Ok(Some(Write {
+            item: item.copy()?,
+            place,
+            effect: effect.copy()?,
+        })),
+    }
+}
+
+/// How many bytes spell these writes.
+fn length_of(writes: &[Write]) -> usize
+    ensures { result ≡ capped (writes_length writes.now) }
+{
+    let mut length: usize = 0;
+    for write in writes {
+        length = length.saturating_add(write_len(write));
+    }
+    length
+}
+
+/// Whether the transaction's writes stay short enough with one more.
+#[tactic(auto, using(crate::proofs::Lengths::length_none, crate::proofs::Lengths::length_push))]
+fn has_room(writes: &[Write], write: &Option<Write>) -> bool
+    ensures { result ≡ nat_le (writes_length (writes.now ++ option_to_list write.now)) 65536 }
+{
+    match write {
+        None => length_of(writes) <= MOST_WRITES,
+        Some(write) => length_of(writes).saturating_add(write_len(write)) <= MOST_WRITES,
+    }
 }
 
 /// An operation with its answer.
@@ -32,22 +71,21 @@ fn done(item: &Item, op: &Op, answer: &Answer) -> Result<Done, Memory>
     })
 }
 
-/// The operation is recorded as the version tells.
+/// The operation is recorded with its answer, and with its write where it updates.
 fn record_operation(
     alloc: Global,
     desk: &mut Desk,
     session: &mut Session,
     at: u64,
-    place: u8,
-    item: Item,
-    op: Op,
+    item: &Item,
+    op: &Op,
     mut transaction: Transaction,
-    form: &Form,
+    answer: &Answer,
+    write: Option<Write>,
 ) -> Result<(), Memory>
-    ensures desk { OnOk result (desk.new ≡ (recorded_by desk.old session.old at place item op transaction form.now).desk) }
-    ensures session { OnOk result (session.new ≡ (recorded_by desk.old session.old at place item op transaction form.now).session) }
+    ensures desk { OnOk result (desk.new ≡ with_note (tell desk.old session.old (Reply.Answered at answer.now)) (Note.Performed transaction.tid (record { item = item.now; op = op.now; answer = answer.now }))) }
+    ensures session { OnOk result (session.new ≡ record session.old { running = Some (record transaction { ops = transaction.ops ++ record { item = item.now; op = op.now; answer = answer.now } ∷ []; writes = transaction.writes ++ option_to_list write }); waits = Waiting.Nothing }) }
 {
-    let Form::Answered { answer, effect } = form;
     let reply = Reply::Answered {
         at,
         answer: answer.copy()?,
@@ -55,22 +93,101 @@ fn record_operation(
     tell_client(alloc, desk, session, &reply)?;
     desk.out.notes.push(Note::Performed {
         tid: transaction.tid,
-        done: done(&item, &op, answer)?,
+        done: done(item, op, answer)?,
     })?;
-    transaction.ops.push(done(&item, &op, answer)?)?;
-    if let Some(effect) = effect {
-        transaction.writes.push(Write {
-            item,
-            place,
-            effect: effect.copy()?,
-        })?;
+    transaction.ops.push(done(item, op, answer)?)?;
+    if let Some(write) = write {
+        transaction.writes.push(write)?;
     }
     session.running = Some(transaction);
     session.waits = Waiting::Nothing;
     Ok(())
 }
 
-/// A version comes: the operation that waits for it is recorded.
+/// The operation isn't done: its request is refused, and the transaction is as before.
+fn turn_down(
+    alloc: Global,
+    desk: &mut Desk,
+    session: &mut Session,
+    at: u64,
+    transaction: Transaction,
+    number: u8,
+) -> Result<(), Memory>
+    ensures desk { OnOk result (desk.new ≡ (turned_down desk.old (record session.old { running = Some transaction }) at number).desk) }
+    ensures session { OnOk result (session.new ≡ (turned_down desk.old (record session.old { running = Some transaction }) at number).session) }
+{
+    session.running = Some(transaction);
+    session.waits = Waiting::Nothing;
+    refuse(alloc, desk, session, at, number)
+}
+
+/// The operation is answered, unless its write makes the transaction's too long.
+fn take_answer(
+    alloc: Global,
+    desk: &mut Desk,
+    session: &mut Session,
+    at: u64,
+    place: u8,
+    item: Item,
+    op: Op,
+    transaction: Transaction,
+    answer: &Answer,
+    effect: &Option<Effect>,
+) -> Result<(), Memory>
+    ensures desk { OnOk result (desk.new ≡ (recorded_by desk.old (record session.old { running = Some transaction }) at place item op transaction (Form.Answered answer.now effect.now)).desk) }
+    ensures session { OnOk result (session.new ≡ (recorded_by desk.old (record session.old { running = Some transaction }) at place item op transaction (Form.Answered answer.now effect.now)).session) }
+{
+    let write = new_write(&item, place, effect)?;
+    if !has_room(transaction.writes.as_slice(), &write) {
+        return turn_down(alloc, desk, session, at, transaction, WRITES_TOO_LONG);
+    }
+    record_operation(
+        alloc,
+        desk,
+        session,
+        at,
+        &item,
+        &op,
+        transaction,
+        answer,
+        write,
+    )
+}
+
+/// The version for which an operation waits comes.
+fn take_form(
+    alloc: Global,
+    desk: &mut Desk,
+    session: &mut Session,
+    at: u64,
+    place: u8,
+    item: Item,
+    op: Op,
+    transaction: Transaction,
+    form: &Form,
+) -> Result<(), Memory>
+    ensures desk { OnOk result (desk.new ≡ (recorded_by desk.old (record session.old { running = Some transaction }) at place item op transaction form.now).desk) }
+    ensures session { OnOk result (session.new ≡ (recorded_by desk.old (record session.old { running = Some transaction }) at place item op transaction form.now).session) }
+{
+    match form {
+        Form::Answered { answer, effect } => take_answer(
+            alloc,
+            desk,
+            session,
+            at,
+            place,
+            item,
+            op,
+            transaction,
+            answer,
+            effect,
+        ),
+        Form::WritesFull => turn_down(alloc, desk, session, at, transaction, WRITES_TOO_LONG),
+        Form::AnswerFull => turn_down(alloc, desk, session, at, transaction, ANSWER_TOO_LONG),
+    }
+}
+
+/// A version comes: the operation that waits for it is answered or turned down.
 #[tactic(auto, unfolding(us_model::specs::Sessions::version))]
 pub fn take_version(
     alloc: Global,
@@ -90,7 +207,7 @@ pub fn take_version(
         } => match session.running.take() {
             Some(transaction) => {
                 if awaits(told, at, place, &transaction) {
-                    return record_operation(
+                    return take_form(
                         alloc,
                         desk,
                         session,

@@ -2,6 +2,7 @@
 #![tactic(auto)]
 
 mod answer;
+mod codec;
 mod coordinator;
 mod partition;
 mod reading;

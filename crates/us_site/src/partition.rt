@@ -1,16 +1,17 @@
 //! The rules of a partition.
 ghost use Rattle.std.specs.Prelude.{◌≡◌, ◌<◌, ◌^◌, ◌++◌, ◌∷◌, [], IfOk, OnOk, Some, None, if◌then◌else◌, position, not};
 ghost use Rattle.us_base.specs.Vector.{zero};
-ghost use Rattle.us_model.specs.Partitions.{known, own_known, least_ts, get, next_timestamp, contains_tid, timestamp_for, may_prepare, prepared, is_of, commit, may_answer, versions, still_parked};
+ghost use Rattle.us_model.specs.Partitions.{known, own_known, least_ts, get, next_timestamp, timestamp_for, may_prepare, prepared, is_of, commit, may_answer, versions, still_parked};
 
 use crate::reading::push_versions;
 use std::alloc::Global;
 use std::marker::Model;
 use us_base::Vector;
+use us_index::Listed;
 use us_kind::{Items, Memory, Tid};
 use us_model::{Get, LogTx, PreparedTx};
 use us_peer_wire::{Actor, Packet};
-use us_value::Write;
+use us_value::{Catalog, Write};
 
 /// The greatest number of a timestamp.
 const GREATEST: u64 = 1 << 62;
@@ -24,7 +25,7 @@ pub struct Part {
     clock: u64,
     log: Vec<LogTx>,
     prepared: Vec<PreparedTx>,
-    done: Vec<Tid>,
+    done: Listed<Tid>,
     got: Vector,
     parked: Vec<Get>,
 }
@@ -34,7 +35,7 @@ impl Model for Part {
 
     ghost Value = { Partition };
 
-    ghost view = { λ a. record { clock = a.clock; log = a.log.items; prepared = a.prepared.items; done = a.done.items; got = a.got; parked = a.parked.items } };
+    ghost view = { λ a. record { clock = a.clock; log = a.log.items; prepared = a.prepared.items; done = a.done; got = a.got; parked = a.parked.items } };
 }
 
 impl Part {
@@ -45,7 +46,7 @@ impl Part {
             clock: 0,
             log: Vec::new(alloc),
             prepared: Vec::new(alloc),
-            done: Vec::new(alloc),
+            done: Listed::new(alloc),
             got: Vector::zero(),
             parked: Vec::new(alloc),
         }
@@ -87,7 +88,7 @@ impl Part {
         if above >= GREATEST {
             return Ok(None);
         }
-        if contains(self.done.as_slice(), &tid) {
+        if self.done.contains(&tid) {
             return Ok(None);
         }
         let ts = timestamp_above(me.actor, above);
@@ -133,16 +134,18 @@ impl Part {
         &mut self,
         alloc: Global,
         me: &Actor,
+        catalog: &Catalog,
         packets: &mut Items<Packet>,
     ) -> Result<(), Memory>
         requires { me.now.site < 10 }
         ensures state { OnOk result (self.new ≡ record self.old { parked = still_parked (known me.now self.old) self.old.parked }) }
-        ensures packets { OnOk result (packets.new ≡ packets.old ++ versions me.now (known me.now self.old) self.old.log self.old.parked) }
+        ensures packets { OnOk result (packets.new ≡ packets.old ++ versions me.now catalog.now (known me.now self.old) self.old.log self.old.parked) }
     {
         let known = self.known(me);
         push_versions(
             alloc,
             me,
+            catalog,
             &known,
             self.log.as_slice(),
             self.parked.as_slice(),
@@ -187,12 +190,6 @@ fn least_of(start: u64, transactions: &[PreparedTx]) -> u64
         least = least.min(transaction.ts);
     }
     least
-}
-
-fn contains(tids: &[Tid], tid: &Tid) -> bool
-    ensures { result ≡ contains_tid tid.now tids.now }
-{
-    tids.iter().any(|t| t.same(tid))
 }
 
 fn place_of(transactions: &[PreparedTx], tid: &Tid) -> Option<usize>

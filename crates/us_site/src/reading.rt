@@ -1,41 +1,55 @@
 //! The versions of items that a partition's log tells.
 ghost use Rattle.std.specs.Prelude.{◌≡◌, ◌++◌, IfOk, OnOk};
-ghost use Rattle.us_model.specs.Partitions.{after_writes, after_log, after_own, state_for, version_for, versions};
+ghost use Rattle.us_value.specs.Values.{answered, prepared, updated};
+ghost use Rattle.us_model.specs.Partitions.{after_writes, after_log, after_own, state_for, is_too_long, form_for, version_for, versions};
 
+use crate::codec::MOST_ANSWER;
 use std::alloc::Global;
 use us_base::Vector;
 use us_kind::{Items, Memory, Stamp, Tag, Tid};
 use us_model::{Get, LogTx};
 use us_peer_wire::{Actor, Form, Message, Packet, Version};
-use us_value::{Effect, Item, Kind, State, Write};
+use us_value::{
+    Answer, Catalog, Effect, Item, Kind, Op, State, ValueFault, Write, answer_len, effect_len,
+};
 
 /// The sum under which a transaction's own effects count: above every other.
 const OWN_SUM: u128 = u128::MAX;
+
+/// How many bytes the writes of a transaction are spelled in at most.
+pub const MOST_WRITES: usize = 65536;
 
 /// The versions for the questions whose snapshot is known.
 pub fn push_versions(
     alloc: Global,
     me: &Actor,
+    catalog: &Catalog,
     known: &Vector,
     log: &[LogTx],
     questions: &[Get],
     packets: &mut Items<Packet>,
 ) -> Result<(), Memory>
-    ensures { OnOk result (packets.new ≡ packets.old ++ versions me.now known.now log.now questions.now) }
+    ensures { OnOk result (packets.new ≡ packets.old ++ versions me.now catalog.now known.now log.now questions.now) }
 {
     for question in questions {
         if question.snapshot.at_most(known) {
-            packets.push(version_of(alloc, me, log, question)?)?;
+            packets.push(version_of(alloc, me, catalog, log, question)?)?;
         }
     }
     Ok(())
 }
 
 /// The version that a question asks for.
-fn version_of(alloc: Global, me: &Actor, log: &[LogTx], question: &Get) -> Result<Packet, Memory>
-    ensures { IfOk result (λ packet. packet ≡ version_for me.now log.now question.now) }
+fn version_of(
+    alloc: Global,
+    me: &Actor,
+    catalog: &Catalog,
+    log: &[LogTx],
+    question: &Get,
+) -> Result<Packet, Memory>
+    ensures { IfOk result (λ packet. packet ≡ version_for me.now catalog.now log.now question.now) }
 {
-    let state = state_of(alloc, log, question)?;
+    let state = state_of(alloc, catalog, log, question)?;
     let tag = Tag {
         tid: question.tid,
         place: question.place,
@@ -44,10 +58,7 @@ fn version_of(alloc: Global, me: &Actor, log: &[LogTx], question: &Get) -> Resul
         tid: question.tid,
         place: question.place,
         at: question.at,
-        form: Form::Answered {
-            answer: us_value::answer(alloc, &state, &question.op)?,
-            effect: us_value::prepare(alloc, &state, &question.op, tag)?,
-        },
+        form: form_at(alloc, &state, &question.op, tag)?,
     };
     Ok(Packet {
         from: *me,
@@ -59,12 +70,91 @@ fn version_of(alloc: Global, me: &Actor, log: &[LogTx], question: &Get) -> Resul
     })
 }
 
+/// What a version tells of an operation at a state.
+fn form_at(alloc: Global, state: &State, op: &Op, tag: Tag) -> Result<Form, Memory>
+    ensures { IfOk result (λ form. form ≡ form_for (answered op.now state.now) (prepared tag op.now state.now)) }
+{
+    let answer = answer_at(alloc, state, op)?;
+    if answer_len(&answer) > MOST_ANSWER {
+        return Ok(Form::AnswerFull);
+    }
+    let effect = effect_at(alloc, state, op, tag)?;
+    if is_too_long(&effect) {
+        return Ok(Form::WritesFull);
+    }
+    Ok(Form::Answered { answer, effect })
+}
+
+/// Whether the effect is longer than the writes of a transaction may be.
+fn is_too_long(effect: &Option<Effect>) -> bool
+    ensures { result ≡ is_too_long effect.now }
+{
+    match effect {
+        None => false,
+        Some(effect) => effect_len(effect) > MOST_WRITES,
+    }
+}
+
+/// What an operation answers at a state. One of another kind answers that it is done: none is met, since a question that
+/// doesn't fit its space is dropped.
+fn answer_at(alloc: Global, state: &State, op: &Op) -> Result<Answer, Memory>
+    ensures { IfOk result (λ answer. answer ≡ answered op.now state.now) }
+{
+    match us_value::answer(alloc, state, op) {
+        Ok(answer) => Ok(answer),
+        Err(ValueFault::WrongOperation) => Ok(Answer::Done),
+        Err(ValueFault::Memory) => Err(Memory),
+    }
+}
+
+/// The effect of an operation at a state. One of another kind has none, as above.
+fn effect_at(alloc: Global, state: &State, op: &Op, tag: Tag) -> Result<Option<Effect>, Memory>
+    ensures { IfOk result (λ effect. effect ≡ prepared tag op.now state.now) }
+{
+    match us_value::prepare(alloc, state, op, tag) {
+        Ok(effect) => Ok(effect),
+        Err(ValueFault::WrongOperation) => Ok(None),
+        Err(ValueFault::Memory) => Err(Memory),
+    }
+}
+
+/// How many updates a counter takes at most.
+const UPDATES: u64 = 1 << 60;
+
+/// Makes an effect part of a state. One of another kind changes nothing, as above. A counter that takes no more updates
+/// counts as want of memory: none is met, since a site takes fewer than 2^48 events (docs/DECISIONS.md).
+fn apply_effect(
+    alloc: Global,
+    state: &mut State,
+    effect: &Effect,
+    stamp: Stamp,
+) -> Result<(), Memory>
+    ensures { OnOk result (state.new ≡ updated state.old effect.now stamp) }
+{
+    if state.counted() >= UPDATES {
+        return Err(Memory);
+    }
+    match us_value::apply(alloc, state, effect, stamp) {
+        Ok(()) => Ok(()),
+        Err(ValueFault::WrongOperation) => Ok(()),
+        Err(ValueFault::Memory) => Err(Memory),
+    }
+}
+
 /// The state of the question's item at its snapshot, and the transaction's own effects on top.
 #[tactic(auto, unfolding(us_model::specs::Partitions::state_for))]
-fn state_of(alloc: Global, log: &[LogTx], question: &Get) -> Result<State, Memory>
-    ensures { IfOk result (λ state. state ≡ state_for log.now question.now) }
+fn state_of(
+    alloc: Global,
+    catalog: &Catalog,
+    log: &[LogTx],
+    question: &Get,
+) -> Result<State, Memory>
+    ensures { IfOk result (λ state. state ≡ state_for catalog.now log.now question.now) }
 {
-    let mut state = State::initial(alloc, Kind::Register)?;
+    let kind = catalog
+        .kind_of(question.item.space)
+        .unwrap_or(Kind::Register);
+    let mut state = State::initial(alloc, kind)?;
     apply_log(alloc, &mut state, &question.item, &question.snapshot, log)?;
     apply_own(alloc, &mut state, question.tid, question.own.as_slice())?;
     Ok(state)
@@ -113,7 +203,7 @@ fn apply_writes(
                 tid,
                 place: write.place,
             };
-            us_value::apply(alloc, state, &write.effect, stamp)?;
+            apply_effect(alloc, state, &write.effect, stamp)?;
         }
     }
     Ok(())
@@ -129,7 +219,7 @@ fn apply_own(alloc: Global, state: &mut State, tid: Tid, own: &[(u8, Effect)]) -
             tid,
             place: *place,
         };
-        us_value::apply(alloc, state, effect, stamp)?;
+        apply_effect(alloc, state, effect, stamp)?;
     }
     Ok(())
 }

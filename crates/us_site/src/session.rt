@@ -2,16 +2,18 @@
 ghost use Rattle.std.specs.Prelude.{◌≡◌, ◌+◌, ◌<◌, ◌++◌, ◌∷◌, [], IfOk, OnOk, length, true, false, Some, None};
 ghost use Rattle.us_client_wire.specs.Replies.{reply_spelling};
 ghost use Rattle.us_base.specs.Vector.{join};
-ghost use Rattle.us_model.specs.Sessions.{with_packets, with_note, reply_out, tell, session_name, refused, own_effects, request_in, request, to_partition, no_stream, is_nothing};
+ghost use Rattle.us_value.specs.Catalogs.{kind_in};
+ghost use Rattle.us_model.specs.Sessions.{with_packets, with_note, reply_out, tell, session_name, refused, own_effects, asked_for, objection, begin, perform, commit_causal, abandon, request, to_partition, no_stream, is_nothing};
 
+use crate::codec::spelled;
 use std::alloc::Global;
 use us_base::Vector;
-use us_client_wire::{Reply, Request, encode_reply};
+use us_client_wire::{Reply, Request};
 use us_exec::SessionName;
-use us_kind::{Bytes, Items, Memory, Tid};
+use us_kind::{Items, Memory, Tid};
 use us_model::{ClientOut, Desk, Note, Session, Transaction, Waiting};
 use us_peer_wire::{Actor, Message, Packet};
-use us_value::{Answer, Effect, Item, Op, Write};
+use us_value::{Catalog, Effect, Item, Op, Write, op_fits};
 use us_wire::FrameReader;
 
 /// How many operations a transaction has at most.
@@ -20,9 +22,6 @@ const OPERATIONS: usize = 64;
 /// The greatest whole frame of a client, in bytes.
 const CLIENT_FRAME: u32 = 65536;
 
-/// How long a value may be that an answer spells.
-const SPELLED: usize = 65535;
-
 /// Why a request is refused, as docs/PROTOCOL.md lists it.
 pub const MALFORMED: u8 = 1;
 
@@ -30,7 +29,19 @@ const NO_TRANSACTION: u8 = 2;
 
 const IN_TRANSACTION: u8 = 3;
 
+const UNKNOWN_SPACE: u8 = 4;
+
+const OTHER_KIND: u8 = 5;
+
 const TOO_MANY_OPERATIONS: u8 = 6;
+
+pub const WRITES_TOO_LONG: u8 = 7;
+
+pub const ANSWER_TOO_LONG: u8 = 8;
+
+pub const TOO_MANY_REQUESTS: u8 = 9;
+
+pub const TOO_MANY_SESSIONS: u8 = 11;
 
 /// The partition that keeps every item.
 pub const HOME: u8 = 1;
@@ -52,22 +63,6 @@ pub fn new_stream(alloc: Global) -> FrameReader
     FrameReader::new(alloc, CLIENT_FRAME)
 }
 
-/// A reply's whole frame. An answer too long to be spelled counts as want of memory: clients' values are shorter.
-fn spelled(alloc: Global, reply: &Reply) -> Result<Bytes, Memory>
-    ensures { IfOk result (λ bytes. bytes ≡ reply_spelling reply.now) }
-{
-    if let Reply::Answered {
-        at: _,
-        answer: Answer::Value { value },
-    } = reply
-    {
-        if value.len() > SPELLED {
-            return Err(Memory);
-        }
-    }
-    encode_reply(alloc, reply)
-}
-
 /// Gives a reply out to the session's client.
 fn give(
     alloc: Global,
@@ -81,7 +76,7 @@ fn give(
     let out = ClientOut {
         coord: desk.me.actor,
         session: session.number,
-        bytes: spelled(alloc, reply)?,
+        bytes: spelled(alloc, desk.shape, reply)?,
         ends,
     };
     desk.out.client.push(out)
@@ -150,8 +145,8 @@ pub fn send(desk: &mut Desk, part: u8, message: Message) -> Result<(), Memory>
 
 /// Begins a transaction, unless one runs.
 fn begin(alloc: Global, desk: &mut Desk, session: &mut Session, at: u64) -> Result<(), Memory>
-    ensures desk { OnOk result (desk.new ≡ (request_in desk.old session.old at Request.Begin session.old.running).desk) }
-    ensures session { OnOk result (session.new ≡ (request_in desk.old session.old at Request.Begin session.old.running).session) }
+    ensures desk { OnOk result (desk.new ≡ (begin desk.old session.old at session.old.running).desk) }
+    ensures session { OnOk result (session.new ≡ (begin desk.old session.old at session.old.running).session) }
 {
     if session.running.is_some() {
         return refuse(alloc, desk, session, at, IN_TRANSACTION);
@@ -220,27 +215,24 @@ fn question(
     })
 }
 
-/// Performs an operation, which waits for its item's version.
-fn perform(
+/// Asks for the version that an operation meets, and waits for it.
+fn ask(
     alloc: Global,
     desk: &mut Desk,
     session: &mut Session,
     at: u64,
+    transaction: Transaction,
     item: Item,
     op: Op,
 ) -> Result<(), Memory>
-    ensures desk { OnOk result (desk.new ≡ (request_in desk.old session.old at (Request.Perform item op) session.old.running).desk) }
-    ensures session { OnOk result (session.new ≡ (request_in desk.old session.old at (Request.Perform item op) session.old.running).session) }
+    requires { length transaction.ops < 64 }
+    ensures desk { OnOk result (desk.new ≡ (asked_for desk.old (record session.old { running = Some transaction }) at transaction item op).desk) }
+    ensures session { OnOk result (session.new ≡ (asked_for desk.old (record session.old { running = Some transaction }) at transaction item op).session) }
 {
-    let Some(transaction) = &session.running else {
-        return refuse(alloc, desk, session, at, NO_TRANSACTION);
-    };
-    if transaction.ops.len() >= OPERATIONS {
-        return refuse(alloc, desk, session, at, TOO_MANY_OPERATIONS);
-    }
     let place = (transaction.ops.len() + 1) as u8;
-    let message = question(alloc, transaction, at, place, &item, &op)?;
+    let message = question(alloc, &transaction, at, place, &item, &op)?;
     send(desk, HOME, message)?;
+    session.running = Some(transaction);
     session.waits = Waiting::Version {
         at,
         place,
@@ -248,6 +240,41 @@ fn perform(
         op,
     };
     Ok(())
+}
+
+/// Why the transaction may not do the operation, if so.
+fn objection(catalog: &Catalog, transaction: &Transaction, item: &Item, op: &Op) -> Option<u8>
+    ensures { result ≡ objection (kind_in catalog.now item.now.space) transaction.now op.now }
+{
+    match catalog.kind_of(item.space) {
+        None => Some(UNKNOWN_SPACE),
+        Some(kind) if !op_fits(kind, op) => Some(OTHER_KIND),
+        Some(_) if transaction.ops.len() >= OPERATIONS => Some(TOO_MANY_OPERATIONS),
+        Some(_) => None,
+    }
+}
+
+/// Performs an operation, which waits for its item's version.
+fn perform(
+    alloc: Global,
+    catalog: &Catalog,
+    desk: &mut Desk,
+    session: &mut Session,
+    at: u64,
+    item: Item,
+    op: Op,
+) -> Result<(), Memory>
+    ensures desk { OnOk result (desk.new ≡ (perform catalog.now desk.old session.old at item op session.old.running).desk) }
+    ensures session { OnOk result (session.new ≡ (perform catalog.now desk.old session.old at item op session.old.running).session) }
+{
+    let Some(transaction) = session.running.take() else {
+        return refuse(alloc, desk, session, at, NO_TRANSACTION);
+    };
+    if let Some(number) = objection(catalog, &transaction, &item, &op) {
+        session.running = Some(transaction);
+        return refuse(alloc, desk, session, at, number);
+    }
+    ask(alloc, desk, session, at, transaction, item, op)
 }
 
 /// Copies of the writes.
@@ -285,8 +312,8 @@ pub fn end(
 
 /// Commits the transaction: at once where it wrote nothing, else its writes are to be prepared.
 fn commit(alloc: Global, desk: &mut Desk, session: &mut Session, at: u64) -> Result<(), Memory>
-    ensures desk { OnOk result (desk.new ≡ (request_in desk.old session.old at Request.CommitCausal session.old.running).desk) }
-    ensures session { OnOk result (session.new ≡ (request_in desk.old session.old at Request.CommitCausal session.old.running).session) }
+    ensures desk { OnOk result (desk.new ≡ (commit_causal desk.old session.old at session.old.running).desk) }
+    ensures session { OnOk result (session.new ≡ (commit_causal desk.old session.old at session.old.running).session) }
 {
     let Some(transaction) = &session.running else {
         return refuse(alloc, desk, session, at, NO_TRANSACTION);
@@ -316,22 +343,42 @@ fn commit(alloc: Global, desk: &mut Desk, session: &mut Session, at: u64) -> Res
     Ok(())
 }
 
+/// Ends the transaction as left.
+fn abandon(alloc: Global, desk: &mut Desk, session: &mut Session, at: u64) -> Result<(), Memory>
+    ensures desk { OnOk result (desk.new ≡ (abandon desk.old session.old at session.old.running).desk) }
+    ensures session { OnOk result (session.new ≡ (abandon desk.old session.old at session.old.running).session) }
+{
+    let Some(transaction) = &session.running else {
+        return refuse(alloc, desk, session, at, NO_TRANSACTION);
+    };
+    let tid = transaction.tid;
+    tell_client(alloc, desk, session, &Reply::Dropped { at })?;
+    desk.out.notes.push(Note::Left { tid })?;
+    session.running = None;
+    Ok(())
+}
+
 /// One request.
 #[tactic(auto, unfolding(us_model::specs::Sessions::request))]
 pub fn perform_request(
     alloc: Global,
+    catalog: &Catalog,
     desk: &mut Desk,
     session: &mut Session,
     at: u64,
     asked: Request,
 ) -> Result<(), Memory>
-    ensures desk { OnOk result (desk.new ≡ (request desk.old session.old at asked).desk) }
-    ensures session { OnOk result (session.new ≡ (request desk.old session.old at asked).session) }
+    ensures desk { OnOk result (desk.new ≡ (request catalog.now desk.old session.old at asked).desk) }
+    ensures session { OnOk result (session.new ≡ (request catalog.now desk.old session.old at asked).session) }
 {
     match asked {
         Request::Begin => begin(alloc, desk, session, at),
-        Request::Perform { item, op } => perform(alloc, desk, session, at, item, op),
+        Request::Perform { item, op } => perform(alloc, catalog, desk, session, at, item, op),
         Request::CommitCausal => commit(alloc, desk, session, at),
+        Request::Abandon => abandon(alloc, desk, session, at),
+        Request::CommitStrong | Request::Barrier | Request::AskToken | Request::Attach { .. } => Ok(
+            (),
+        ),
     }
 }
 

@@ -1,25 +1,28 @@
 //! A partition and the coordinator of the same number take events.
-ghost use Rattle.std.specs.Prelude.{◌≡◌, ◌<◌, ◌++◌, ◌∷◌, [], ◌==◌, IfOk, OnOk, Some, None};
-ghost use Rattle.us_model.specs.Sites.{new_shard, new_session, opened, all_sessions, take_message, is_configured, all_configured, message_fits, is_for, take_event, wake, no_outputs};
+ghost use Rattle.std.specs.Prelude.{◌≡◌, ◌<◌, ◌++◌, ◌∷◌, [], ◌==◌, true, IfOk, OnOk, Some, None};
+ghost use Rattle.us_model.specs.Sites.{new_shard, new_session, opened, open_in, all_sessions, take_message, op_is_of, effect_is_of, own_are_of, writes_fit, message_fits, is_for, take_event, wake, no_outputs};
+ghost use Rattle.us_client_wire.specs.Replies.{reply_spelling};
 ghost use Rattle.us_model.specs.Worlds.{waits_in};
 ghost use Rattle.us_site.specs.Steps.{acts};
 
+use crate::codec::spelled;
 use crate::coordinator::{Turn, each};
 use crate::partition::Part;
-use crate::session::{after, new_stream};
+use crate::session::{TOO_MANY_SESSIONS, after, new_stream};
 use crate::waits::{Unanswered, waits_in};
 use std::alloc::Global;
 use std::marker::Model;
-use us_base::Vector;
+use us_base::{Shape, Vector};
+use us_client_wire::Reply;
 use us_kind::{Items, Memory, Tid};
-use us_model::{Desk, Event, Get, Note, Outputs, PreparedAt, Session, Waiting};
+use us_model::{
+    ClientOut, Desk, Event, Get, Note, Outputs, PreparedAt, Session, Settings, Waiting,
+};
 use us_peer_wire::{Actor, Message, Packet};
-use us_value::{Item, Write};
+use us_value::{Catalog, Effect, Kind, Op, Write, effect_fits, op_fits};
 
-/// The partition that there is, and the space that is configured.
+/// The partition that there is.
 const PARTITION: u8 = 1;
-
-const SPACE: u8 = 1;
 
 /// A partition and the coordinator of the same number.
 #[derive(Drop)]
@@ -60,20 +63,28 @@ impl Shard {
         &mut self,
         alloc: Global,
         me: &Actor,
+        settings: &Settings,
         out: Outputs,
         turn: &Turn,
     ) -> Result<Outputs, Memory>
         requires { me.now.site < 10 }
-        ensures shard { OnOk result (self.new ≡ (all_sessions (acts turn.now) me.now (record { shard = self.old; out = out })).shard) }
-        ensures out { IfOk result (λ given. given ≡ (all_sessions (acts turn.now) me.now (record { shard = self.old; out = out })).out) }
+        ensures shard { OnOk result (self.new ≡ (all_sessions (acts settings.now.catalog turn.now) me.now settings.now.shape (record { shard = self.old; out = out })).shard) }
+        ensures out { IfOk result (λ given. given ≡ (all_sessions (acts settings.now.catalog turn.now) me.now settings.now.shape (record { shard = self.old; out = out })).out) }
     {
         let mut desk = Desk {
             me: *me,
+            shape: settings.shape,
             base: self.part.known(me),
             seq: self.seq,
             out,
         };
-        each(alloc, &mut desk, self.sessions.as_mut_slice(), turn)?;
+        each(
+            alloc,
+            &settings.catalog,
+            &mut desk,
+            self.sessions.as_mut_slice(),
+            turn,
+        )?;
         self.seq = desk.seq;
         Ok(desk.out)
     }
@@ -92,10 +103,18 @@ impl Shard {
         Ok(out)
     }
 
+    /// How many of its sessions are open.
+    pub fn open_sessions(&self) -> usize
+        ensures { result ≡ open_in self.now.coordinator.sessions }
+    {
+        open_count(self.sessions.as_slice())
+    }
+
     /// A coordinator asks for a transaction to be prepared.
     fn prepare(
         &mut self,
         me: &Actor,
+        settings: &Settings,
         from: &Actor,
         mut out: Outputs,
         tid: Tid,
@@ -104,8 +123,8 @@ impl Shard {
     ) -> Result<Outputs, Memory>
         requires site { me.now.site < 10 }
         requires actor { me.now.actor < 64 }
-        ensures shard { OnOk result (self.new ≡ (take_message me.now from.now (record { shard = self.old; out = out }) (Message.Prepare tid snapshot writes)).shard) }
-        ensures out { IfOk result (λ given. given ≡ (take_message me.now from.now (record { shard = self.old; out = out }) (Message.Prepare tid snapshot writes)).out) }
+        ensures shard { OnOk result (self.new ≡ (take_message me.now settings.now.shape from.now (record { shard = self.old; out = out }) (Message.Prepare tid snapshot writes)).shard) }
+        ensures out { IfOk result (λ given. given ≡ (take_message me.now settings.now.shape from.now (record { shard = self.old; out = out }) (Message.Prepare tid snapshot writes)).out) }
     {
         if let Some(ts) = self.part.prepare(me, tid, snapshot, writes)? {
             out.packets.push(Packet {
@@ -122,14 +141,15 @@ impl Shard {
         &mut self,
         alloc: Global,
         me: &Actor,
+        settings: &Settings,
         from: &Actor,
         out: Outputs,
         message: Message,
     ) -> Result<Outputs, Memory>
         requires site { me.now.site < 10 }
         requires actor { me.now.actor < 64 }
-        ensures shard { OnOk result (self.new ≡ (take_message me.now from.now (record { shard = self.old; out = out }) message).shard) }
-        ensures out { IfOk result (λ given. given ≡ (take_message me.now from.now (record { shard = self.old; out = out }) message).out) }
+        ensures shard { OnOk result (self.new ≡ (take_message me.now settings.now.shape from.now (record { shard = self.old; out = out }) message).shard) }
+        ensures out { IfOk result (λ given. given ≡ (take_message me.now settings.now.shape from.now (record { shard = self.old; out = out }) message).out) }
     {
         match message {
             Message::Get {
@@ -154,18 +174,20 @@ impl Shard {
                 self.part.get(me, question)?;
                 Ok(out)
             }
-            Message::Version { version } => self.turn(alloc, me, out, &Turn::Version { version }),
+            Message::Version { version } => {
+                self.turn(alloc, me, settings, out, &Turn::Version { version })
+            }
             Message::Prepare {
                 tid,
                 snapshot,
                 writes,
-            } => self.prepare(me, from, out, tid, snapshot, writes),
+            } => self.prepare(me, settings, from, out, tid, snapshot, writes),
             Message::Prepared { tid, ts } => {
                 let one = PreparedAt {
                     part: from.actor,
                     ts,
                 };
-                self.turn(alloc, me, out, &Turn::Prepared { one, tid })
+                self.turn(alloc, me, settings, out, &Turn::Prepared { one, tid })
             }
             Message::Commit { tid, vector } => {
                 self.part.commit(me, &tid, vector)?;
@@ -180,15 +202,18 @@ impl Shard {
         &mut self,
         alloc: Global,
         me: &Actor,
+        settings: &Settings,
+        full: bool,
         out: Outputs,
         event: Event,
     ) -> Result<Outputs, Memory>
         requires site { me.now.site < 10 }
         requires actor { me.now.actor < 64 }
-        ensures shard { OnOk result (self.new ≡ (take_event me.now (record { shard = self.old; out = out }) event).shard) }
-        ensures out { IfOk result (λ given. given ≡ (take_event me.now (record { shard = self.old; out = out }) event).out) }
+        ensures shard { OnOk result (self.new ≡ (take_event me.now settings.now full (record { shard = self.old; out = out }) event).shard) }
+        ensures out { IfOk result (λ given. given ≡ (take_event me.now settings.now full (record { shard = self.old; out = out }) event).out) }
     {
         match event {
+            Event::Open { coord } if full => refuse_open(alloc, settings.shape, coord, out),
             Event::Open { coord } => self.open(alloc, coord, out),
             Event::Bytes {
                 coord: _,
@@ -199,10 +224,13 @@ impl Shard {
                     number: session,
                     piece: bytes,
                 };
-                self.turn(alloc, me, out, &turn)
+                self.turn(alloc, me, settings, out, &turn)
+            }
+            Event::Close { coord: _, session } => {
+                self.turn(alloc, me, settings, out, &Turn::Close { number: session })
             }
             Event::Take { packet } => {
-                if !is_taken(me, &packet) {
+                if !is_taken(me, &settings.catalog, &packet) {
                     return Ok(out);
                 }
                 let Packet {
@@ -210,76 +238,149 @@ impl Shard {
                     to: _,
                     message,
                 } = packet;
-                self.take(alloc, me, &from, out, message)
+                self.take(alloc, me, settings, &from, out, message)
             }
         }
     }
 
     /// Waiting questions are answered, and then each session runs.
     #[tactic(auto, unfolding(us_model::specs::Sites::wake))]
-    fn wake(&mut self, alloc: Global, me: &Actor, mut out: Outputs) -> Result<Outputs, Memory>
+    fn wake(
+        &mut self,
+        alloc: Global,
+        me: &Actor,
+        settings: &Settings,
+        mut out: Outputs,
+    ) -> Result<Outputs, Memory>
         requires { me.now.site < 10 }
-        ensures shard { OnOk result (self.new ≡ (wake me.now (record { shard = self.old; out = out })).shard) }
-        ensures out { IfOk result (λ given. given ≡ (wake me.now (record { shard = self.old; out = out })).out) }
+        ensures shard { OnOk result (self.new ≡ (wake me.now settings.now (record { shard = self.old; out = out })).shard) }
+        ensures out { IfOk result (λ given. given ≡ (wake me.now settings.now (record { shard = self.old; out = out })).out) }
     {
-        self.part.answer_parked(alloc, me, &mut out.packets)?;
-        self.turn(alloc, me, out, &Turn::Run)
+        self.part
+            .answer_parked(alloc, me, &settings.catalog, &mut out.packets)?;
+        self.turn(alloc, me, settings, out, &Turn::Run)
     }
 
-    /// An event comes, and then the actor wakes.
-    pub fn step(&mut self, alloc: Global, me: &Actor, event: Event) -> Result<Outputs, Memory>
+    /// An event comes, and then the actor wakes. A site that is full opens no session.
+    pub fn step(
+        &mut self,
+        alloc: Global,
+        me: &Actor,
+        settings: &Settings,
+        full: bool,
+        event: Event,
+    ) -> Result<Outputs, Memory>
         requires site { me.now.site < 10 }
         requires actor { me.now.actor < 64 }
-        ensures shard { OnOk result (self.new ≡ (wake me.now (take_event me.now (record { shard = self.old; out = no_outputs }) event)).shard) }
-        ensures out { IfOk result (λ given. given ≡ (wake me.now (take_event me.now (record { shard = self.old; out = no_outputs }) event)).out) }
+        ensures shard { OnOk result (self.new ≡ (wake me.now settings.now (take_event me.now settings.now full (record { shard = self.old; out = no_outputs }) event)).shard) }
+        ensures out { IfOk result (λ given. given ≡ (wake me.now settings.now (take_event me.now settings.now full (record { shard = self.old; out = no_outputs }) event)).out) }
     {
         let out = Outputs {
             packets: Items::new(alloc),
             client: Items::new(alloc),
             notes: Items::new(alloc),
         };
-        let out = self.take_event(alloc, me, out, event)?;
-        self.wake(alloc, me, out)
+        let out = self.take_event(alloc, me, settings, full, out, event)?;
+        self.wake(alloc, me, settings, out)
     }
 }
 
-/// Whether the item's space is configured.
-fn is_of_space(item: &Item) -> bool
-    ensures { result ≡ is_configured item.now }
+/// How many of the sessions are open.
+fn open_count(sessions: &[Session]) -> usize
+    ensures { result ≡ open_in sessions.now }
 {
-    item.space == SPACE
+    let mut open = 0;
+    for session in sessions {
+        if session.closed {
+            continue;
+        }
+        open += 1;
+    }
+    open
 }
 
-/// Whether the spaces of all writes are configured.
-fn are_of_space(writes: &[Write]) -> bool
-    ensures { result ≡ all_configured writes.now }
+/// Refuses to open a session: the site has as many open ones as it may have.
+fn refuse_open(alloc: Global, shape: Shape, coord: u8, mut out: Outputs) -> Result<Outputs, Memory>
+    ensures { IfOk result (λ given. given ≡ record out { client = out.client ++ record { coord = coord; session = 0; bytes = reply_spelling shape (Reply.Refused 0 11); ends = true } ∷ [] }) }
 {
-    for write in writes {
-        if !is_of_space(&write.item) {
+    let reply = Reply::Refused {
+        at: 0,
+        number: TOO_MANY_SESSIONS,
+    };
+    out.client.push(ClientOut {
+        coord,
+        session: 0,
+        bytes: spelled(alloc, shape, &reply)?,
+        ends: true,
+    })?;
+    Ok(out)
+}
+
+/// Whether the operation is one of this kind.
+fn op_is_of(kind: Option<Kind>, op: &Op) -> bool
+    ensures { result ≡ op_is_of kind op.now }
+{
+    match kind {
+        None => false,
+        Some(kind) => op_fits(kind, op),
+    }
+}
+
+/// Whether the effect is one of this kind.
+fn effect_is_of(kind: Option<Kind>, effect: &Effect) -> bool
+    ensures { result ≡ effect_is_of kind effect.now }
+{
+    match kind {
+        None => false,
+        Some(kind) => effect_fits(kind, effect),
+    }
+}
+
+/// Whether the transaction's own effects are of this kind.
+fn own_are_of(kind: Option<Kind>, own: &[(u8, Effect)]) -> bool
+    ensures { result ≡ own_are_of kind own.now }
+{
+    for (_, effect) in own {
+        if !effect_is_of(kind, effect) {
             return false;
         }
     }
     true
 }
 
-/// Whether the message is about items of a configured space.
-fn fits(message: &Message) -> bool
-    ensures { result ≡ message_fits message.now }
+/// Whether all writes are on items of configured spaces, with effects of their kinds.
+fn writes_fit(catalog: &Catalog, writes: &[Write]) -> bool
+    ensures { result ≡ writes_fit catalog.now writes.now }
+{
+    for write in writes {
+        if !effect_is_of(catalog.kind_of(write.item.space), &write.effect) {
+            return false;
+        }
+    }
+    true
+}
+
+/// Whether the message is about items of configured spaces, with operations and effects of their kinds.
+fn fits(catalog: &Catalog, message: &Message) -> bool
+    ensures { result ≡ message_fits catalog.now message.now }
 {
     match message {
-        Message::Get { item, .. } => is_of_space(item),
-        Message::Prepare { writes, .. } => are_of_space(writes.as_slice()),
+        Message::Get { item, op, own, .. } => {
+            let kind = catalog.kind_of(item.space);
+            op_is_of(kind, op) && own_are_of(kind, own.as_slice())
+        }
+        Message::Prepare { writes, .. } => writes_fit(catalog, writes.as_slice()),
         Message::Version { .. } => true,
         Message::Prepared { .. } => true,
         Message::Commit { .. } => true,
     }
 }
 
-/// Whether the actor takes the packet: from a partition's actor of the own site, about items of a configured space.
-fn is_taken(me: &Actor, packet: &Packet) -> bool
-    ensures { result ≡ is_for me.now packet.now }
+/// Whether the actor takes the packet: from a partition's actor of the own site, about items of configured spaces.
+fn is_taken(me: &Actor, catalog: &Catalog, packet: &Packet) -> bool
+    ensures { result ≡ is_for me.now catalog.now packet.now }
 {
-    packet.from.site == me.site && packet.from.actor == PARTITION && fits(&packet.message)
+    packet.from.site == me.site && packet.from.actor == PARTITION && fits(catalog, &packet.message)
 }
 
 /// A session of which nothing has come.

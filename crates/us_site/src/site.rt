@@ -8,14 +8,23 @@ use crate::shard::Shard;
 use crate::waits::Unanswered;
 use std::alloc::Global;
 use std::marker::Model;
+use us_base::Shape;
 use us_kind::{Items, Memory};
-use us_model::{Event, Outputs};
+use us_model::{Event, Outputs, Settings};
 use us_peer_wire::Actor;
+use us_value::Catalog;
+
+/// A store of one site with one partition.
+const LONE: Shape = Shape { f: 0, parts: 1 };
+
+/// How many sessions of a site may be open.
+const SESSIONS: usize = 4096;
 
 /// A site: one state machine, whose only way on is `step`.
 #[derive(Drop)]
 pub struct Site {
     number: u8,
+    settings: Settings,
     shard: Shard,
     taken: u64,
     stopped: bool,
@@ -27,7 +36,7 @@ impl Model for Site {
 
     ghost Value = { Served };
 
-    ghost view = { λ a. record { site = record { number = a.number; shards = a.shard ∷ [] }; taken = a.taken; stopped = a.stopped } };
+    ghost view = { λ a. record { site = record { number = a.number; settings = a.settings; shards = a.shard ∷ [] }; taken = a.taken; stopped = a.stopped } };
 
     ghost invariant = { λ a. a.number < 10 };
 }
@@ -35,13 +44,17 @@ impl Model for Site {
 impl Site {
     ghost use Rattle.us_model.specs.Sites.{new_site};
 
-    /// A site with one partition, of which nothing has come.
-    pub fn new(alloc: Global, site: u8) -> Site
+    /// A site with one partition and these spaces, of which nothing has come.
+    pub fn new(alloc: Global, site: u8, catalog: Catalog) -> Site
         requires { site < 10 }
-        ensures { result ≡ record { site = new_site site; taken = 0; stopped = false } }
+        ensures { result ≡ record { site = new_site site catalog; taken = 0; stopped = false } }
     {
         Site {
             number: site,
+            settings: Settings {
+                shape: LONE,
+                catalog,
+            },
             shard: Shard::new(alloc),
             taken: 0,
             stopped: false,
@@ -84,7 +97,7 @@ impl Site {
     {
         self.stopped = true;
         let taken = after(self.taken)?;
-        let out = step_shard(alloc, self.number, &mut self.shard, event)?;
+        let out = step_shard(alloc, self.number, &self.settings, &mut self.shard, event)?;
         self.taken = taken;
         self.stopped = false;
         Ok(out)
@@ -98,15 +111,22 @@ fn actor_in(event: &Event) -> u8
     match event {
         Event::Open { coord } => *coord,
         Event::Bytes { coord, .. } => *coord,
+        Event::Close { coord, .. } => *coord,
         Event::Take { packet } => packet.to.actor,
     }
 }
 
 /// The step of the site with this number and one shard. An event at another actor changes nothing.
-fn step_shard(alloc: Global, number: u8, shard: &mut Shard, event: Event) -> Result<Outputs, Memory>
+fn step_shard(
+    alloc: Global,
+    number: u8,
+    settings: &Settings,
+    shard: &mut Shard,
+    event: Event,
+) -> Result<Outputs, Memory>
     requires { number < 10 }
-    ensures shard { OnOk result ((site_step (record { number = number; shards = shard.old ∷ [] }) event).site ≡ record { number = number; shards = shard.new ∷ [] }) }
-    ensures out { IfOk result (λ out. out ≡ (site_step (record { number = number; shards = shard.old ∷ [] }) event).out) }
+    ensures shard { OnOk result ((site_step (record { number = number; settings = settings.now; shards = shard.old ∷ [] }) event).site ≡ record { number = number; settings = settings.now; shards = shard.new ∷ [] }) }
+    ensures out { IfOk result (λ out. out ≡ (site_step (record { number = number; settings = settings.now; shards = shard.old ∷ [] }) event).out) }
 {
     let actor = actor_in(&event);
     if actor != 1 {
@@ -120,5 +140,6 @@ fn step_shard(alloc: Global, number: u8, shard: &mut Shard, event: Event) -> Res
         site: number,
         actor,
     };
-    shard.step(alloc, &me, event)
+    let full = shard.open_sessions() >= SESSIONS;
+    shard.step(alloc, &me, settings, full, event)
 }

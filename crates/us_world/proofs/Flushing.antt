@@ -1,106 +1,60 @@
--- A flush, packet by packet.
-use Rattle.std.proofs.Common.{◌≡◌, ◌∙◌, ℕ, zero, suc, ◌+◌, ◌<◌, List, [], ◌∷◌, ◌++◌, length, Bool, true, false, cond, Option, Some, None, refl, sym, ap, subst, arith, inl, inr, get_or, nat_lt}
-use Rattle.std.specs.Prelude.{⊤, ◌&&◌, ◌==◌, find}
-use Rattle.std.specs.List.{position, position_or_len, slice_get, remove}
-use Rattle.std.proofs.lemmas.Bool.{cond-true, cond-false, cases_lt, and_parts, eqb-true}
+-- Deliveries, one and many.
+use Rattle.std.proofs.Common.{◌≡◌, ◌∙◌, ℕ, zero, suc, ◌+◌, ◌<◌, ◌≤◌, List, [], ◌∷◌, ◌++◌, length, map, Bool, true, false, Option, Some, None, Ok, Err, refl, sym, ap, subst, arith, length-append, nat_lt, ◌⊎◌, inl, inr, ◌-◌}
+use Rattle.std.proofs.lemmas.Bool.{cond-true}
 use Rattle.std.proofs.lemmas.Bool.Decides.{nat_tests}
-use Rattle.std.proofs.lemmas.List.Quantifiers.{position-Some}
+use Rattle.std.proofs.lemmas.List.{length-map}
+use Rattle.std.specs.Prelude.{⊤, Result, OnOk, IfErr}
+use Rattle.std.specs.List.{slice_get}
 use Rattle.us_model.specs.declared.event.Event.TheVariants as event
-use Rattle.us_model.specs.Worlds.{World, Happening, Comes, nth, at_site, delivered, comes, happens, run, least_undelivered, Flushes}
+use Rattle.us_model.specs.Worlds.{World, Happening, Comes, nth, happens, run, least_undelivered, Flushes}
 use Rattle.us_world.specs.declared.world.Sent.{Sent}
-use Rattle.us_world.specs.Kept.{Kept, undelivered, StandsFor, after_event, goes}
-use Rattle.us_world.proofs.Standing.{stands_event, number_of, least-first, find-true, first-sent, first-within, undelivered-gone, delivered-within, gone}
+use Rattle.us_world.specs.declared.fault.WorldFault.{WorldFault}
+use Rattle.us_world.specs.declared.fault.WorldFault.TheVariants as fault
+use Rattle.us_world.specs.Limits.{Delivers, delivery, delivery_of, limit_of}
+use Rattle.us_world.specs.Kept.{Kept, StandsFor, packet_of, is_due_at, NoneDue, HasSkipped, HasCome, LimitSays, passed_by, marked, after_delivery}
+use Rattle.us_world.specs.Lines.{GoesBy, PassesBy, StoppedBy, IsDelivery}
+use Rattle.us_world.proofs.Standing.{nth-place, events-at, stands_delivery, stands_skipped}
+use Rattle.us_world.proofs.Due.{least_place, no_least}
+use Rattle.us_world.proofs.Happenings.{run-append, limit_after, limit_one, OneEvent}
 
--- WHAT THE PLACE OF THE FIRST SAYS
--- no place, nothing found
-find-none : {X : Type 0} (p : X → Bool) (xs : List X) → position p xs ≡ None → find p xs ≡ None
-find-none p [] none = refl
-find-none p (x ∷ xs) none = go (p x) refl (λ rest. find-none p xs rest)
-  where
-    go : (t : Bool) → p x ≡ t → (position p xs ≡ None → find p xs ≡ None) → find p (x ∷ xs) ≡ None
-    go true e rec =
-        let t : nat_lt 0 (suc (length xs)) ≡ true = grind (arith, nat_tests) in
-        let shown : position p (x ∷ xs) ≡ cond (nat_lt 0 (suc (length xs))) (Some 0) None = rw e refl in
-        let bad : ◌≡◌ {A = Option ℕ} (Some 0) None = sym (rw t at shown) ∙ none in
-        cc
-    go false e rec =
-        let n = position_or_len p xs in
-        elim (cases_lt n (length xs)) [
-          | inl under ↦
-              let t : nat_lt (1 + n) (suc (length xs)) ≡ true = grind (arith, nat_tests) in
-              let shown : position p (x ∷ xs) ≡ cond (nat_lt (1 + n) (suc (length xs))) (Some (1 + n)) None = rw e refl in
-              let bad : Some (1 + n) ≡ None = sym (rw t at shown) ∙ none in
-              cc
-          | inr over ↦
-              let t : nat_lt n (length xs) ≡ false = grind (arith, nat_tests) in
-              let rest : position p xs ≡ None = rw t refl in
-              rw e (rec rest)
-        ]
+pub events-delivery : (place : ℕ) (s : Sent) (k : Kept) → (after_delivery place s k).events ≡ k.events + 1
+events-delivery place s k = events-at (marked place s k) s.packet.to.site (event.Take s.packet)
 
--- the first place that passes is what is found
-find-first : {X : Type 0} (p : X → Bool) (xs : List X) (i : ℕ) (d : X) → i < length xs → p (get_or xs i d) ≡ true
-    → ((k : ℕ) → k < i → p (get_or xs k d) ≡ false) → find p xs ≡ Some (get_or xs i d)
-find-first p [] i d lt hit before = absurd (omega arith)
-find-first p (x ∷ xs) zero d lt hit before = cond-true _ _ _ hit
-find-first p (x ∷ xs) (suc i) d lt hit before =
-    let head : p x ≡ false = before 0 (omega arith) in
-    cond-false _ _ _ head ∙ find-first p xs i d (omega arith) hit (λ k low. before (suc k) (omega arith))
+-- ONE DELIVERY
+pub one_delivery : (k : Kept) (place number : ℕ) (s : Sent) → slice_get k.sent place ≡ Some s → number ≡ place + 1 → OneEvent (IsDelivery number) k (after_delivery place s k)
+one_delivery k place number s at is = record {
+  happening = λ w. Comes number;
+  is = λ w h. sym (ap (delivery_of number) (nth-place k w place number s h at is));
+  stands = λ w h. stands_delivery k w place number s h at is;
+  counts = events-delivery place s k;
+}
 
--- and what is gone without it
-gone-first : {X : Type 0} (p : X → Bool) (xs : List X) (i : ℕ) (d : X) → i < length xs → p (get_or xs i d) ≡ true
-    → ((k : ℕ) → k < i → p (get_or xs k d) ≡ false) → remove xs i ≡ gone p xs
-gone-first p [] i d lt hit before = absurd (omega arith)
-gone-first p (x ∷ xs) zero d lt hit before = sym (cond-true _ _ _ hit)
-gone-first p (x ∷ xs) (suc i) d lt hit before =
-    let head : p x ≡ false = before 0 (omega arith) in
-    ap (λ ys. x ∷ ys) (gone-first p xs i d (omega arith) hit (λ k low. before (suc k) (omega arith))) ∙ sym (cond-false _ _ _ head)
+slice-outside : {X : Type 0} (xs : List X) (i : ℕ) → length xs ≤ i → slice_get xs i ≡ None
+slice-outside [] i l = refl
+slice-outside (x ∷ xs) zero l = absurd (omega arith)
+slice-outside (x ∷ xs) (suc i) l = slice-outside xs i (omega arith)
 
-get-or-get : {X : Type 0} (xs : List X) (i : ℕ) (x : X) → slice_get xs i ≡ Some x → get_or xs i x ≡ x
-get-or-get [] i x e = refl
-get-or-get (y ∷ ys) zero x e = cc
-get-or-get (y ∷ ys) (suc i) x e = get-or-get ys i x e
+nth-outside : {X : Type 0} (xs : List X) (n : ℕ) → (n ≡ 0) ⊎ (length xs < n) → nth xs n ≡ None
+nth-outside xs zero out = refl
+nth-outside xs (suc m) (inl e) = absurd (omega arith)
+nth-outside xs (suc m) (inr l) =
+    let t : nat_lt 0 (suc m) ≡ true = grind (arith, nat_tests) in
+    let e : suc m - 1 ≡ m = omega arith in
+    cond-true _ _ _ t ∙ ap (λ i. slice_get xs i) e ∙ slice-outside xs m (omega arith)
 
--- A PACKET THAT IS DELIVERED
--- the packets from one site to the one that there is
-pub stands_delivered : (k : Kept) (w : World) (from : ℕ) (s : Sent) → StandsFor k w → find (goes from 1) k.due ≡ Some s
-    → (least_undelivered w from 1 ≡ Some s.number) × StandsFor (after_event (record k { due = gone (goes from 1) k.due }) (event.Take s.packet)) (happens w (Comes s.number))
-unfolding happens
-stands_delivered k w from s h e =
-    let g = goes from 1 in
-    let found : find g (undelivered w.delivered 1 w.packets) ≡ Some s = ap (find g) h.due ∙ e in
-    let sent : nth w.packets s.number ≡ Some s.packet = first-sent g w.delivered w.packets s found in
-    let passes : (s.packet.from.site == from) && (s.packet.to.site == 1) ≡ true = find-true g k.due s e in
-    let to : s.packet.to.site ≡ 1 = eqb-true _ _ (and_parts _ _ passes).1 in
-    let dw : World = delivered w s.number in
-    let dk : Kept = record k { due = gone g k.due } in
-    let mid : StandsFor dk dw = record {
-      sites = h.sites;
-      sent = h.sent;
-      due = undelivered-gone g w.delivered 1 w.packets s found ∙ ap (gone g) h.due;
-      within = delivered-within w.delivered s.number (length w.packets) h.within (first-within g w.delivered w.packets s found);
-      history = h.history;
-    } in
-    let there : comes w s.number (nth w.packets s.number) ≡ at_site dw 1 (event.Take s.packet) =
-    ap (comes w s.number) sent ∙ ap (λ n. at_site dw n (event.Take s.packet)) to
-    in (
-      least-first from 1 w.delivered 1 w.packets ∙ ap number_of found,
-      subst (λ v. StandsFor (after_event dk (event.Take s.packet)) v) (sym there) (stands_event dk dw (event.Take s.packet) mid),
-    )
+-- nothing comes where fewer were sent
+pub no_delivery : (k : Kept) (number : ℕ) → (number ≡ 0) ⊎ (length k.sent < number) → GoesBy (IsDelivery number) k k
+no_delivery k number out w h =
+    let same : k.events ≡ k.events + 0 = omega arith in
+    let few : (number ≡ 0) ⊎ (length (map packet_of k.sent) < number) = elim out [
+      | inl e ↦ inl e
+      | inr l ↦ inr (omega (arith, length-map k.sent packet_of))
+    ]
+    in
+    let none : nth w.packets number ≡ None = ap (λ ps. nth ps number) h.packets ∙ nth-outside (map packet_of k.sent) number few in
+    ([], sym (ap (delivery_of number) none), refl, h, same)
 
 -- A FLUSH FROM THE FRONT
-run-more : (hs : List Happening) (h : Happening) (w : World) → run (hs ++ h ∷ []) w ≡ happens (run hs w) h
-run-more [] h w = refl
-run-more (g ∷ hs) h w = run-more hs h (happens w g)
-
-pub run-append : (hs gs : List Happening) (w : World) → run (hs ++ gs) w ≡ run gs (run hs w)
-run-append [] gs w = refl
-run-append (h ∷ hs) gs w = run-append hs gs (happens w h)
-
--- each time the least one
-abbrev pub Delivers : ℕ → ℕ → World → List Happening → Type 0
-Delivers from to w [] = ⊤
-Delivers from to w (h ∷ hs) = ((k : ℕ) × (least_undelivered w from to ≡ Some k) × (h ≡ Comes k)) × Delivers from to (happens w h) hs
-
 delivers-more : (from to : ℕ) (w : World) (hs : List Happening) (k : ℕ) → Delivers from to w hs → least_undelivered (run hs w) from to ≡ Some k → Delivers from to w (hs ++ Comes k ∷ [])
 delivers-more from to w [] k d e = ((k, e, refl), tt)
 delivers-more from to w (h ∷ hs) k d e = (d.0, delivers-more from to (happens w h) hs k d.1 e)
@@ -109,37 +63,76 @@ flushes : (from to : ℕ) (w : World) (hs : List Happening) → Delivers from to
 flushes from to w [] d e = e
 flushes from to w (h ∷ hs) d e = (d.0, flushes from to (happens w h) hs d.1 e)
 
--- what is kept has come from what was kept, by deliveries of the least
-abbrev pub HasDelivered : ℕ → Kept → Kept → Type 0
-HasDelivered from old new = (w : World) → StandsFor old w → (hs : List Happening) × Delivers from 1 w hs × StandsFor new (run hs w)
+-- the next packet that is due
+pub record IsNext (from to : ℕ) (mid k : Kept) (place : ℕ) : Type 0 where
+  pub skipped : HasSkipped mid k
+  pub due : is_due_at from to k.sent place ≡ true
+  pub first : NoneDue from to k.sent k.cursor place
 
-pub delivered_none : (from : ℕ) (k : Kept) → HasDelivered from k k
-delivered_none from k w h = ([], tt, h)
+events-skipped : (mid k : Kept) → HasSkipped mid k → k.events ≡ mid.events
+events-skipped mid k skip = ap (λ (m : Kept). m.events) skip.same
 
-pub delivered_more : (from : ℕ) (old k new : Kept) (i : ℕ) (s : Sent) → HasDelivered from old k → position (goes from 1) k.due ≡ Some i → slice_get k.due i ≡ Some s
-    → new ≡ after_event (record k { due = remove k.due i }) (event.Take s.packet) → HasDelivered from old new
-delivered_more from old k new i s so place at is w h =
-    let g = goes from 1 in
+pub delivered_none : (from to : ℕ) (k : Kept) → GoesBy (Delivers from to) k k
+delivered_none from to k w h =
+    let same : k.events ≡ k.events + 0 = omega arith in
+    ([], tt, refl, h, same)
+
+pub delivered_more : (from to : ℕ) (old mid k new : Kept) (place : ℕ) (s : Sent) → GoesBy (Delivers from to) old mid → IsNext from to mid k place
+    → slice_get k.sent place ≡ Some s → new ≡ after_delivery place s k → passed_by (after_delivery place s k) ≡ None → GoesBy (Delivers from to) old new
+delivered_more from to old mid k new place s so next at is within =
+    subst (λ m. GoesBy (Delivers from to) old m) (sym is) (λ w h.
     let was = so w h in
     let hs = was.0 in
-    let parts = position-Some g k.due i s place in
-    let same : get_or k.due i s ≡ s = get-or-get k.due i s at in
-    let found : find g k.due ≡ Some s = find-first g k.due i s parts.0 parts.1 parts.2 ∙ ap (λ x. Some x) same in
-    let rest : remove k.due i ≡ gone g k.due = gone-first g k.due i s parts.0 parts.1 parts.2 in
-    let next = stands_delivered k (run hs w) from s was.2 found in
-    let new-is : after_event (record k { due = gone g k.due }) (event.Take s.packet) ≡ new =
-    ap (λ ds. after_event (record k { due = ds }) (event.Take s.packet)) (sym rest) ∙ sym is
-    in (
-      hs ++ Comes s.number ∷ [],
-      delivers-more from 1 w hs s.number was.1 next.0,
-      subst (λ v. StandsFor new v) (sym (run-more hs (Comes s.number) w)) (subst (λ m. StandsFor m (happens (run hs w) (Comes s.number))) new-is next.1),
+    let v = run hs w in
+    let here = stands_skipped mid k v was.3 next.skipped in
+    let least = least_place k v from to place (place + 1) here refl next.due next.first in
+    let there = stands_delivery k v place (place + 1) s here at refl in
+    let kept = after_delivery place s k in
+    let events = events-delivery place s k in
+    let skipped = events-skipped mid k next.skipped in
+    let before = was.4 in
+    let front : k.events ≡ old.events + length hs = omega arith in
+    let all : kept.events ≡ old.events + length (hs ++ Comes (place + 1) ∷ []) = omega (arith, length-append hs (Comes (place + 1) ∷ [])) in (
+      hs ++ Comes (place + 1) ∷ [],
+      delivers-more from to w hs (place + 1) was.1 least,
+      limit_after old.events k.events hs (Comes (place + 1) ∷ []) w None was.2 front (limit_one kept v (Comes (place + 1)) k.events None there events within),
+      subst (λ u. StandsFor kept u) (sym (run-append hs (Comes (place + 1) ∷ []) w)) there,
+      all,
+    ))
+
+delivered-past : (from to : ℕ) (old mid k : Kept) (place : ℕ) (s : Sent) (which : WorldFault) → GoesBy (Delivers from to) old mid → IsNext from to mid k place
+    → slice_get k.sent place ≡ Some s → passed_by (after_delivery place s k) ≡ Some which → PassesBy (Delivers from to) old which
+delivered-past from to old mid k place s which so next at past w h =
+    let was = so w h in
+    let hs = was.0 in
+    let v = run hs w in
+    let here = stands_skipped mid k v was.3 next.skipped in
+    let least = least_place k v from to place (place + 1) here refl next.due next.first in
+    let there = stands_delivery k v place (place + 1) s here at refl in
+    let kept = after_delivery place s k in
+    let events = events-delivery place s k in
+    let skipped = events-skipped mid k next.skipped in
+    let before = was.4 in
+    let front : k.events ≡ old.events + length hs = omega arith in (
+      hs ++ Comes (place + 1) ∷ [],
+      delivers-more from to w hs (place + 1) was.1 least,
+      limit_after old.events k.events hs (Comes (place + 1) ∷ []) w (Some which) was.2 front (limit_one kept v (Comes (place + 1)) k.events (Some which) there events past),
     )
 
-pub delivered_all : (from : ℕ) (old new : Kept) → HasDelivered from old new → position (goes from 1) new.due ≡ None
-    → (w : World) → StandsFor old w → (hs : List Happening) × Flushes from 1 w hs × StandsFor new (run hs w)
-delivered_all from old new so none w h =
-    let g = goes from 1 in
+pub delivered_stops : (e : WorldFault) (from to : ℕ) (old mid k : Kept) (place : ℕ) (s : Sent) → GoesBy (Delivers from to) old mid → IsNext from to mid k place
+    → slice_get k.sent place ≡ Some s → LimitSays {A = ⊤} (Err e) (passed_by (after_delivery place s k)) → StoppedBy (Delivers from to) old e
+delivered_stops fault.Memory from to old mid k place s so next at says = tt
+delivered_stops fault.Events from to old mid k place s so next at says = delivered-past from to old mid k place s fault.Events so next at says
+delivered_stops fault.Sessions from to old mid k place s so next at says = delivered-past from to old mid k place s fault.Sessions so next at says
+delivered_stops fault.Transactions from to old mid k place s so next at says = delivered-past from to old mid k place s fault.Transactions so next at says
+
+pub delivered_all : (from to : ℕ) (old mid new : Kept) → GoesBy (Delivers from to) old mid → HasSkipped mid new → NoneDue from to new.sent new.cursor (length new.sent)
+    → GoesBy (Flushes from to) old new
+delivered_all from to old mid new so skip none w h =
     let was = so w h in
     let v = run was.0 w in
-    let found : find g (undelivered v.delivered 1 v.packets) ≡ None = ap (find g) was.2.due ∙ find-none g new.due none in
-    (was.0, flushes from 1 w was.0 was.1 (least-first from 1 v.delivered 1 v.packets ∙ ap number_of found), was.2)
+    let here = stands_skipped mid new v was.3 skip in
+    let skipped = events-skipped mid new skip in
+    let before = was.4 in
+    let all : new.events ≡ old.events + length was.0 = omega arith in
+    (was.0, flushes from to w was.0 was.1 (no_least new v from to here none), was.2, here, all)

@@ -1,107 +1,140 @@
 -- The lines of a schedule in turn, and the report at their end.
-use Rattle.std.proofs.Common.{◌≡◌, ◌∙◌, ℕ, List, [], ◌∷◌, ◌++◌, refl, sym, ap, subst, append_assoc, append-nil, map, Ok, Err}
-use Rattle.std.specs.Prelude.{IfOk, Result}
+use Rattle.std.proofs.Common.{◌≡◌, ◌∙◌, ℕ, ◌+◌, List, [], ◌∷◌, ◌++◌, length, Option, Some, None, Ok, Err, refl, sym, ap, subst, map, inl, inr, arith}
+use Rattle.std.specs.Prelude.{⊤, Result, OnOk, IfOk, IfErr}
 use Rattle.us_exec.specs.Consistency.{IsPor}
 use Rattle.us_schedule.specs.declared.line.Line.{Line}
 use Rattle.us_schedule.specs.declared.line.Line.TheVariants as line
 use Rattle.us_report.specs.declared.report.Report.{Report}
+use Rattle.us_model.specs.declared.event.Event.{Event}
 use Rattle.us_model.specs.declared.event.Event.TheVariants as event
-use Rattle.us_model.specs.Worlds.{World, Happening, Opens, Sends, Flushes, at_site, happens, run, start, waits_of}
+use Rattle.us_model.specs.State.{Spaces}
+use Rattle.us_model.specs.Worlds.{World, Happening, Opens, Sends, Closes, Flushes, at_site, happens, run, start, waits_of}
 use Rattle.us_model.specs.Executions.{history_of, execution_of}
 use Rattle.us_order.specs.Pasts.{direct_execution}
 use Rattle.us_order.specs.Laws.{ExecutionsAreDirect, EveryRunIsPor}
+use Rattle.us_world.specs.declared.fault.WorldFault.{WorldFault}
+use Rattle.us_world.specs.declared.fault.WorldFault.TheVariants as fault
+use Rattle.us_world.specs.declared.fault.LinesFault.{LinesFault}
+use Rattle.us_world.specs.declared.fault.LinesFault.TheVariants as ends
+use Rattle.us_world.specs.declared.fault.Numbered.{Numbered}
 use Rattle.us_world.specs.Direct.{reported}
-use Rattle.us_world.specs.Kept.{Kept, StandsFor, after_event}
-use Rattle.us_world.specs.Lines.{StandFor, IsBuilt, AllBuilt, waiting, report_of, report_of_kept, IsReportOf, IsPerformed, IsFlushed, IsConsistent}
-use Rattle.us_world.proofs.Standing.{stands_event}
-use Rattle.us_world.proofs.Flushing.{run-append}
+use Rattle.us_world.specs.Kept.{Kept, StandsFor, after_at}
+use Rattle.us_world.specs.Limits.{Performs, Begins, Delivers, delivery, Outcome, Reaches, Passes, Leads, GoesOn, EndsPast}
+use Rattle.us_world.specs.Lines.{IsBuilt, AllBuilt, GoesBy, PassesBy, StoppedBy, IsPerformed, IsStopped, IsDelivery, LeadTo, PassAt, HasReached, LeadOn, waiting, report_of, report_of_kept, IsReportOf, IsLimitOf, fault_at, IsConsistent}
+use Rattle.us_world.proofs.Standing.{stands_at, events-at}
+use Rattle.us_world.proofs.Happenings.{run-append, OneEvent, goes_weaker, stopped_weaker}
 
 -- ONE LINE
-pub opened-stands : (old new : Kept) (site coord : ℕ) → site ≡ 1 → new ≡ after_event old (event.Open coord)
-    → (w : World) → StandsFor old w → StandsFor new (run (Opens site coord ∷ []) w)
+pub one_opening : (k : Kept) (site coord : ℕ) → OneEvent (Performs (line.Open site coord)) k (after_at k site (event.Open coord))
 unfolding happens
-opened-stands old new site coord one is w h =
-    subst (λ n. StandsFor new (at_site w n (event.Open coord))) (sym one)
-    (subst (λ k. StandsFor k (at_site w 1 (event.Open coord))) (sym is) (stands_event old w (event.Open coord) h))
+one_opening k site coord = record {
+  happening = λ w. Opens site coord;
+  is = λ w h. refl;
+  stands = λ w h. stands_at k w site (event.Open coord) h;
+  counts = events-at k site (event.Open coord);
+}
 
-pub sent-stands : (old new : Kept) (site coord session : ℕ) (piece : List ℕ) → site ≡ 1 → new ≡ after_event old (event.Bytes coord session piece)
-    → (w : World) → StandsFor old w → StandsFor new (run (Sends site coord session piece ∷ []) w)
+pub one_sending : (k : Kept) (site coord session : ℕ) (piece : List ℕ) → OneEvent (Performs (line.Bytes site coord session piece)) k (after_at k site (event.Bytes coord session piece))
 unfolding happens
-sent-stands old new site coord session piece one is w h =
-    subst (λ n. StandsFor new (at_site w n (event.Bytes coord session piece))) (sym one)
-    (subst (λ k. StandsFor k (at_site w 1 (event.Bytes coord session piece))) (sym is) (stands_event old w (event.Bytes coord session piece) h))
+one_sending k site coord session piece = record {
+  happening = λ w. Sends site coord session piece;
+  is = λ w h. refl;
+  stands = λ w h. stands_at k w site (event.Bytes coord session piece) h;
+  counts = events-at k site (event.Bytes coord session piece);
+}
 
-pub open-performs : (l : Line) (old new : Kept) (site coord : ℕ) → l ≡ line.Open site coord → IsBuilt l → new ≡ after_event old (event.Open coord) → IsPerformed l old new
-open-performs l old new site coord is built step =
-    let b : IsBuilt (line.Open site coord) = subst IsBuilt is built in
-    subst (λ m. IsPerformed m old new) (sym is) (λ w h. (Opens site coord ∷ [], refl, opened-stands old new site coord b.0 step w h))
-
-pub bytes-perform : (l : Line) (old new : Kept) (site coord session : ℕ) (piece copy : List ℕ) → l ≡ line.Bytes site coord session piece → IsBuilt l
-    → copy ≡ piece → new ≡ after_event old (event.Bytes coord session copy) → IsPerformed l old new
-bytes-perform l old new site coord session piece copy is built same step =
-    let b : IsBuilt (line.Bytes site coord session piece) = subst IsBuilt is built in
-    let step' : new ≡ after_event old (event.Bytes coord session piece) = step ∙ ap (λ bs. after_event old (event.Bytes coord session bs)) same in
-    subst (λ m. IsPerformed m old new) (sym is) (λ w h. (Sends site coord session piece ∷ [], refl, sent-stands old new site coord session piece b.0 step' w h))
-
-pub flush_performs : (l : Line) (old new : Kept) (from to : ℕ) → l ≡ line.Flush from to → IsBuilt l → IsFlushed from old new → IsPerformed l old new
-flush_performs l old new from to is built flushed =
-    let b : IsBuilt (line.Flush from to) = subst IsBuilt is built in
-    subst (λ m. IsPerformed m old new) (sym is) (λ w h.
-    let f = flushed w h in
-    (f.0, subst (λ n. Flushes from n w f.0) (sym b.1) f.1, f.2))
+pub one_closing : (k : Kept) (site coord session : ℕ) → OneEvent (Performs (line.Close site coord session)) k (after_at k site (event.Close coord session))
+unfolding happens
+one_closing k site coord session = record {
+  happening = λ w. Closes site coord session;
+  is = λ w h. refl;
+  stands = λ w h. stands_at k w site (event.Close coord session) h;
+  counts = events-at k site (event.Close coord session);
+}
 
 -- LINES IN TURN
--- what is kept has come to where these lines are left
-abbrev pub HasPerformed : List Line → List Line → Kept → Type 0
-HasPerformed all left k =
-    (hs : List Happening) × StandsFor k (run hs start) × ((rest : List Happening) → StandFor left (run hs start) rest → StandFor all start (hs ++ rest))
+-- the lines that are left lead from a world that the kept stands for to what all of them lead to
+pub record HasPerformed (spaces : Spaces) (all left : List Numbered) (k : Kept) : Type 0 where
+  pub world : World
+  pub stands : StandsFor k world
+  pub leads : (outcome : Outcome) → Leads left k.events world outcome → Leads all 0 (start spaces) outcome
 
-pub performed_none : (all : List Line) (k : Kept) → StandsFor k start → HasPerformed all all k
-performed_none all k h = ([], h, λ rest s. s)
+pub performed_none : (spaces : Spaces) (all : List Numbered) (k : Kept) → StandsFor k (start spaces) → k.events ≡ 0 → HasPerformed spaces all all k
+performed_none spaces all k h none = record {
+  world = start spaces;
+  stands = h;
+  leads = λ o l. subst (λ n. Leads all n (start spaces) o) none l;
+}
 
-pub performed_more : (all left rest : List Line) (l : Line) (old new : Kept) → HasPerformed all left old → left ≡ l ∷ rest
-    → IsPerformed l old new → HasPerformed all rest new
-performed_more all left rest l old new so is step =
-    let hs = so.0 in
-    let w = run hs start in
-    let next = step w so.1 in
-    let first = next.0 in
-    let there : run (hs ++ first) start ≡ run first w = run-append hs first start in (
-      hs ++ first,
-      subst (λ v. StandsFor new v) (sym there) next.2,
-      λ more s.
-          subst (λ gs. StandFor all start gs) (sym (append_assoc hs first more))
-          (so.2 (first ++ more) (subst (λ ls. StandFor ls w (first ++ more)) (sym is) (first, more, refl, next.1, subst (λ v. StandFor rest v more) there s))),
-    )
+pub performed_more : (spaces : Spaces) (all left rest : List Numbered) (l : Numbered) (old new : Kept) → HasPerformed spaces all left old → left ≡ l ∷ rest
+    → IsPerformed l.line old new → HasPerformed spaces all rest new
+performed_more spaces all left rest l old new so is step =
+    let w = so.world in
+    let next = step w so.stands in
+    record {
+      world = run next.0 w;
+      stands = next.3;
+      leads = λ o leads.
+          so.leads o (subst (λ ls. Leads ls old.events w o) (sym is) (inl (next.0, next.1, next.2, subst (λ n. Leads rest n (run next.0 w) o) next.4 leads)));
+    }
+
+passed-at : (spaces : Spaces) (all left rest : List Numbered) (l : Numbered) (old : Kept) (which : WorldFault) → HasPerformed spaces all left old → left ≡ l ∷ rest
+    → PassesBy (Begins l.line) old which → PassAt spaces all l.number which
+passed-at spaces all left rest l old which so is step =
+    let w = so.world in
+    let past = step w so.stands in
+    so.leads (Passes l.number which) (subst (λ ls. Leads ls old.events w (Passes l.number which)) (sym is) (inr (which, (past.0, past.1, past.2), refl)))
+
+pub performed_stops : (spaces : Spaces) (e : WorldFault) (all left rest : List Numbered) (l : Numbered) (old : Kept) → HasPerformed spaces all left old → left ≡ l ∷ rest
+    → IsStopped l.line old e → IsLimitOf spaces all (fault_at l.number e)
+performed_stops spaces fault.Memory all left rest l old so is step = tt
+performed_stops spaces fault.Events all left rest l old so is step = passed-at spaces all left rest l old fault.Events so is step
+performed_stops spaces fault.Sessions all left rest l old so is step = passed-at spaces all left rest l old fault.Sessions so is step
+performed_stops spaces fault.Transactions all left rest l old so is step = passed-at spaces all left rest l old fault.Transactions so is step
+
+pub performed_all : (spaces : Spaces) (all : List Numbered) (k : Kept) → HasPerformed spaces all [] k → HasReached spaces all k
+performed_all spaces all k so = record { world = so.world; stands = so.stands; leads = so.leads (Reaches so.world) refl }
+
+pub built_head : (left rest : List Numbered) (l : Numbered) → AllBuilt left → left ≡ l ∷ rest → IsBuilt l.line
+built_head left rest l b is = (subst AllBuilt is b).0
+
+pub built_rest : (left rest : List Numbered) (l : Numbered) → AllBuilt left → left ≡ l ∷ rest → AllBuilt rest
+built_rest left rest l b is = (subst AllBuilt is b).1
 
 -- THE REPORT
-pub report-same : (k : Kept) (w : World) → StandsFor k w → execution_of w.notes ≡ direct_execution (history_of w.notes) → report_of_kept k ≡ report_of w
+-- a world that lines lead to is that of a run
+abbrev pub IsRun : World → World → Type 0
+IsRun first w = (hs : List Happening) × (w ≡ run hs first)
+
+led-by-run : (lines : List Numbered) (n : ℕ) (first w : World) → Leads lines n first (Reaches w) → IsRun first w
+led-by-run [] n first w leads =
+    let same : w ≡ first = cc in
+    ([], same)
+led-by-run (l ∷ ls) n first w (inl on) =
+    let rest = led-by-run ls (n + length on.0) (run on.0 first) w on.3 in
+    (on.0 ++ rest.0, rest.1 ∙ sym (run-append on.0 rest.0 first))
+led-by-run (l ∷ ls) n first w (inr past) = let bad : Reaches w ≡ Passes l.number past.0 = past.2 in absurd (cc)
+
+pub lead_on : (spaces : Spaces) (lines : List Numbered) (k : Kept) → HasReached spaces lines k → LeadOn spaces lines
+lead_on spaces lines k so = record { world = so.world; leads = so.leads }
+
+report-same : (k : Kept) (w : World) → StandsFor k w → execution_of w.notes ≡ direct_execution (history_of w.notes) → report_of_kept k ≡ report_of w
 report-same k w h direct =
     let execution : direct_execution k.history ≡ execution_of w.notes = ap direct_execution (sym h.history) ∙ sym direct in
     let refused = ap (λ t. map reported t.refused) (sym h.history) in
     let waits = ap (λ sites. map waiting (waits_of sites)) (sym h.sites) in
     λ i. record { execution = execution i; refused = refused i; waiting = waits i }
 
-pub report_is : (all : List Line) (k : Kept) (report : Report) → HasPerformed all [] k → report ≡ report_of_kept k → ExecutionsAreDirect → IsReportOf all report
-report_is all k report so is direct =
-    let hs = so.0 in
-    record {
-      happenings = hs;
-      stand = subst (λ gs. StandFor all start gs) (append-nil hs) (so.2 [] refl);
-      is = is ∙ report-same k (run hs start) so.1 (direct hs);
-    }
+pub report_is : (spaces : Spaces) (lines : List Numbered) (k : Kept) (report : Report) → HasReached spaces lines k → ExecutionsAreDirect → report ≡ report_of_kept k → IsReportOf spaces lines report
+report_is spaces lines k report so direct is =
+    let by = led-by-run lines 0 (start spaces) so.world so.leads in
+    let same : execution_of so.world.notes ≡ direct_execution (history_of so.world.notes) =
+    subst (λ (w : World). execution_of w.notes ≡ direct_execution (history_of w.notes)) (sym by.1) (direct spaces by.0)
+    in
+    record { world = so.world; leads = so.leads; is = is ∙ report-same k so.world so.stands same }
 
-pub built_head : (left rest : List Line) (l : Line) → AllBuilt left → left ≡ l ∷ rest → IsBuilt l
-built_head left rest l b is = (subst AllBuilt is b).0
-
-pub built_rest : (left rest : List Line) (l : Line) → AllBuilt left → left ≡ l ∷ rest → AllBuilt rest
-built_rest left rest l b is = (subst AllBuilt is b).1
-
-pub ok_report : {E : Type 0} (r : Result Report E) (all : List Line) (k : Kept) → HasPerformed all [] k → ExecutionsAreDirect
-    → IfOk r (λ report. report ≡ report_of_kept k) → IfOk r (λ report. IsReportOf all report)
-ok_report (Ok report) all k so direct is = report_is all k report so is direct
-ok_report (Err e) all k so direct is = tt
-
-pub ok_por : {E : Type 0} (r : Result Report E) (all : List Line) → EveryRunIsPor → IfOk r (λ report. IsReportOf all report) → IfOk r (λ report. IsConsistent report.execution)
-ok_por (Ok report) all por is = λ declared. subst (λ (s : Report). IsPor declared s.execution) (sym is.is) (por is.happenings declared)
-ok_por (Err e) all por is = tt
+pub report_por : (spaces : Spaces) (lines : List Numbered) (report : Report) → EveryRunIsPor → IsReportOf spaces lines report → IsConsistent report.execution
+report_por spaces lines report por is declared =
+    let by = led-by-run lines 0 (start spaces) is.world is.leads in
+    let there : IsPor declared (execution_of is.world.notes) = subst (λ (w : World). IsPor declared (execution_of w.notes)) (sym by.1) (por spaces by.0 declared) in
+    subst (λ (s : Report). IsPor declared s.execution) (sym is.is) there

@@ -1,160 +1,85 @@
 -- What is kept stands for the world, and goes along with it.
-use Rattle.std.proofs.Common.{◌≡◌, ◌∙◌, ◌⊎◌, ℕ, zero, suc, ◌+◌, ◌-◌, ◌≤◌, ◌<◌, List, [], ◌∷◌, ◌++◌, length, Bool, true, false, cond, Option, Some, None, refl, sym, ap, subst, arith, inl, inr, append_assoc, nat_lt}
-use Rattle.std.specs.Prelude.{◌&&◌, ◌||◌, ◌==◌, not}
-use Rattle.std.specs.List.{find, slice_get, slice_set}
-use Rattle.std.proofs.lemmas.Bool.{cond-true, cond-false}
+use Rattle.std.proofs.Common.{◌≡◌, ◌∙◌, ◌⊎◌, ℕ, zero, suc, ◌+◌, ◌-◌, ◌≤◌, ◌<◌, List, [], ◌∷◌, ◌++◌, length, map, Bool, true, false, cond, Option, Some, None, refl, sym, ap, subst, arith, inl, inr, nat_lt, append_assoc, get_or}
+use Rattle.std.proofs.lemmas.Option.{slice_get-get_or}
+use Rattle.std.specs.Prelude.{◌||◌, ◌==◌, Result, Err, OnOk}
+use Rattle.us_world.specs.declared.fault.WorldFault.TheVariants as fault
+use Rattle.us_world.specs.declared.fault.WorldFault.{WorldFault}
+use Rattle.std.specs.List.{slice_get, slice_set, list_any}
+use Rattle.std.proofs.lemmas.Bool.{cond-true, cond-false, cases_eq}
 use Rattle.std.proofs.lemmas.Bool.Decides.{nat_tests}
-use Rattle.std.proofs.lemmas.List.{length-append}
+use Rattle.std.proofs.lemmas.List.{map-append}
 use Rattle.std.proofs.lemmas.List.Folds.{list_any-append}
 use Rattle.us_peer_wire.specs.declared.message.Packet.{Packet}
 use Rattle.us_model.specs.declared.event.Event.{Event}
+use Rattle.us_model.specs.declared.event.Event.TheVariants as event
 use Rattle.us_model.specs.declared.event.Note.{Note}
+use Rattle.us_model.specs.State.{Site}
 use Rattle.us_model.specs.Sites.{Stepped, site_step}
-use Rattle.us_model.specs.Worlds.{World, nth, stepped, at_one, at_site, is_delivered, least_due}
+use Rattle.us_model.specs.Worlds.{World, Happening, Comes, nth, stepped, at_one, at_site, delivered, comes, happens, is_delivered}
 use Rattle.us_model.specs.Executions.{History, noted, noted_all, no_history}
 use Rattle.us_world.specs.declared.world.Sent.{Sent}
-use Rattle.us_world.specs.Kept.{Kept, numbered, undelivered, StandsFor, after_step, after_event, goes}
+use Rattle.us_world.specs.Limits.{is_opening, is_beginning, how_many, opened_in, begun_in}
+use Rattle.us_world.specs.Kept.{Kept, StandsFor, packet_of, fresh, unmarked, is_marked, is_marked_at, AllMarked, after_step, after_event, after_nothing, after_at, marked, after_delivery, HasSkipped, IsDelivered, HasCome, LimitSays, passed_by}
 
 -- PACKETS AND NOTES IN TURN
-pub numbered-append : (k : ℕ) (ps qs : List Packet) → numbered k (ps ++ qs) ≡ numbered k ps ++ numbered (k + length ps) qs
-numbered-append k [] qs =
-    let e : k ≡ k + 0 = omega arith in
-    ap (λ n. numbered n qs) e
-numbered-append k (p ∷ ps) qs =
-    let e : k + 1 + length ps ≡ k + suc (length ps) = omega arith in
-    ap (λ ss. record { number = k; packet = p } ∷ ss) (numbered-append (k + 1) ps qs ∙ ap (λ n. numbered (k + 1) ps ++ numbered n qs) e)
-
 -- one more is on its way
-pub sent-turn : (fore due next : List Sent) (sent before number : ℕ) (ps : List Packet) (p : Packet)
-    → next ≡ due ++ record { number = number; packet = p } ∷ [] → number ≡ before + 1 → before ≡ sent + length ps
-    → due ≡ fore ++ numbered (sent + 1) ps → next ≡ fore ++ numbered (sent + 1) (ps ++ p ∷ [])
-sent-turn fore due next sent before number ps p push one at is =
-    let one-more : List Sent → ℕ → List Sent = λ ds n. ds ++ record { number = n; packet = p } ∷ [] in
-    let e : number ≡ sent + 1 + length ps = omega arith in
+pub sent-turn : (fore now next : List Sent) (ps : List Packet) (p : Packet) → next ≡ now ++ fresh p ∷ [] → now ≡ fore ++ unmarked ps
+    → next ≡ fore ++ unmarked (ps ++ p ∷ [])
+sent-turn fore now next ps p push is =
     push
-    ∙ ap (λ ds. one-more ds number) is
-    ∙ append_assoc fore (numbered (sent + 1) ps) (record { number = number; packet = p } ∷ [])
-    ∙ ap (λ n. fore ++ one-more (numbered (sent + 1) ps) n) e
-    ∙ ap (λ ss. fore ++ ss) (sym (numbered-append (sent + 1) ps (p ∷ [])))
+    ∙ ap (λ ss. ss ++ fresh p ∷ []) is
+    ∙ append_assoc fore (unmarked ps) (fresh p ∷ [])
+    ∙ ap (λ ss. fore ++ ss) (sym (map-append fresh ps (p ∷ [])))
 
 pub noted-append : (h : History) (ns ms : List Note) → noted_all h (ns ++ ms) ≡ noted_all (noted_all h ns) ms
 noted-append h [] ms = refl
 noted-append h (n ∷ ns) ms = noted-append (noted h n) ns ms
 
--- WHAT WASN'T DELIVERED
-undelivered-append : (del : List ℕ) (k : ℕ) (ps qs : List Packet) → undelivered del k (ps ++ qs) ≡ undelivered del k ps ++ undelivered del (k + length ps) qs
-undelivered-append del k [] qs =
-    let e : k ≡ k + 0 = omega arith in
-    ap (λ n. undelivered del n qs) e
-undelivered-append del k (p ∷ ps) qs =
-    let e : k + 1 + length ps ≡ k + suc (length ps) = omega arith in
-    on (is_delivered del k) (undelivered-append del (k + 1) ps qs ∙ ap (λ n. undelivered del (k + 1) ps ++ undelivered del n qs) e)
+how_many-append : (p : Note → Bool) (ns ms : List Note) → how_many p (ns ++ ms) ≡ how_many p ns + how_many p ms
+how_many-append p [] ms = omega arith
+how_many-append p (n ∷ ns) ms = on (p n) (how_many-append p ns ms)
   where
-    on : (t : Bool) → undelivered del (k + 1) (ps ++ qs) ≡ undelivered del (k + 1) ps ++ undelivered del (k + suc (length ps)) qs
-        → cond t (undelivered del (k + 1) (ps ++ qs)) (record { number = k; packet = p } ∷ undelivered del (k + 1) (ps ++ qs))
-        ≡ cond t (undelivered del (k + 1) ps) (record { number = k; packet = p } ∷ undelivered del (k + 1) ps) ++ undelivered del (k + suc (length ps)) qs
-    on true e = e
-    on false e = ap (λ ss. record { number = k; packet = p } ∷ ss) e
+    on : (t : Bool) → how_many p (ns ++ ms) ≡ how_many p ns + how_many p ms
+        → cond t (how_many p (ns ++ ms) + 1) (how_many p (ns ++ ms)) ≡ cond t (how_many p ns + 1) (how_many p ns) + how_many p ms
+    on true e = omega arith
+    on false e = e
 
-undelivered-new : (del : List ℕ) (k : ℕ) (ps : List Packet) → ((n : ℕ) → k ≤ n → is_delivered del n ≡ false) → undelivered del k ps ≡ numbered k ps
-undelivered-new del k [] h = refl
-undelivered-new del k (p ∷ ps) h =
-    cond-false _ _ _ (h k (omega arith))
-    ∙ ap (λ ss. record { number = k; packet = p } ∷ ss) (undelivered-new del (k + 1) ps (λ n l. h n (omega arith)))
+-- PLACES
+-- of more packets that weren't delivered no place is marked
+marked-append : (sent : List Sent) (ps : List Packet) (i : ℕ) → is_marked_at (sent ++ unmarked ps) i ≡ is_marked_at sent i
+marked-append [] [] i = refl
+marked-append [] (p ∷ ps) zero = refl
+marked-append [] (p ∷ ps) (suc i) = marked-append [] ps i
+marked-append (s ∷ ss) ps zero = refl
+marked-append (s ∷ ss) ps (suc i) = marked-append ss ps i
 
-is-fresh : (t : Bool) (n m : ℕ) → (t ≡ true → n ≤ m) → m < n → t ≡ false
-is-fresh true n m h l = absurd (omega (arith, h refl))
-is-fresh false n m h l = refl
+marked-same : (sent : List Sent) (place : ℕ) (s t : Sent) → slice_get sent place ≡ Some s → is_marked_at (slice_set sent place t) place ≡ t.delivered
+marked-same [] place s t e = absurd (cc)
+marked-same (u ∷ us) zero s t e = refl
+marked-same (u ∷ us) (suc place) s t e = marked-same us place s t e
 
--- AN EVENT AT THE SITE
-pub stands_event : (k : Kept) (w : World) (e : Event) → StandsFor k w → StandsFor (after_event k e) (at_site w 1 e)
-stands_event k w e h =
-    let r : Stepped = site_step k.site e in
-    let at : at_site w 1 e ≡ stepped w 1 r = ap (λ sites. at_one w 1 e (nth sites 1)) h.sites in
-    let n = length w.packets in
-    let next : 1 + n ≡ k.sent + 1 = omega (arith, h.sent) in
-    let fresh : (m : ℕ) → 1 + n ≤ m → is_delivered w.delivered m ≡ false = λ m l. is-fresh (is_delivered w.delivered m) m n (h.within m) (omega arith) in
-    subst (λ v. StandsFor (after_step k r) v) (sym at) (record {
-      sites = ap (λ sites. slice_set sites 0 r.site) h.sites;
-      sent = length-append w.packets r.out.packets ∙ ap (λ m. m + length r.out.packets) h.sent;
-      due = undelivered-append w.delivered 1 w.packets r.out.packets
-          ∙ ap (λ ds. ds ++ undelivered w.delivered (1 + n) r.out.packets) h.due
-          ∙ ap (λ ds. k.due ++ ds) (undelivered-new w.delivered (1 + n) r.out.packets fresh ∙ ap (λ m. numbered m r.out.packets) next);
-      within = λ m d. let e = length-append w.packets r.out.packets in let l = h.within m d in omega arith;
-      history = noted-append no_history w.notes r.out.notes ∙ ap (λ t. noted_all t r.out.notes) h.history;
-    })
+marked-other : (sent : List Sent) (place i : ℕ) (t : Sent) → (place ≡ i → ⊥) → is_marked_at (slice_set sent place t) i ≡ is_marked_at sent i
+marked-other [] place i t e = refl
+marked-other (u ∷ us) zero zero t e = absurd (e refl)
+marked-other (u ∷ us) zero (suc i) t e = refl
+marked-other (u ∷ us) (suc place) zero t e = refl
+marked-other (u ∷ us) (suc place) (suc i) t e = marked-other us place i t (λ h. e (ap suc h))
 
--- THE FIRST PACKET FROM ONE SITE TO ANOTHER
-abbrev pub number_of : Option Sent → Option ℕ
-number_of None = None
-number_of (Some s) = Some s.number
+-- the packets are the same where one is marked
+packets-set : (sent : List Sent) (place : ℕ) (s t : Sent) → slice_get sent place ≡ Some s → t.packet ≡ s.packet
+    → map packet_of (slice_set sent place t) ≡ map packet_of sent
+packets-set [] place s t e same = refl
+packets-set (u ∷ us) zero s t e same =
+    let is : u ≡ s = cc in
+    ap (λ p. p ∷ map packet_of us) (same ∙ ap packet_of (sym is))
+packets-set (u ∷ us) (suc place) s t e same = ap (λ ps. packet_of u ∷ ps) (packets-set us place s t e same)
 
-pub least-first : (from to : ℕ) (del : List ℕ) (k : ℕ) (ps : List Packet) → least_due from to del k ps ≡ number_of (find (goes from to) (undelivered del k ps))
-least-first from to del k [] = refl
-least-first from to del k (p ∷ ps) = on (p.from.site == from) (p.to.site == to) (is_delivered del k) refl (least-first from to del (k + 1) ps)
-  where
-    on : (a b d : Bool) → goes from to (record { number = k; packet = p }) ≡ (a && b)
-        → least_due from to del (k + 1) ps ≡ number_of (find (goes from to) (undelivered del (k + 1) ps))
-        → cond (a && (b && not d)) (Some k) (least_due from to del (k + 1) ps)
-        ≡ number_of (find (goes from to) (cond d (undelivered del (k + 1) ps) (record { number = k; packet = p } ∷ undelivered del (k + 1) ps)))
-    on true true true g e = e
-    on true false true g e = e
-    on false b true g e = e
-    on true true false g e = ap number_of (sym (cond-true _ _ _ g))
-    on true false false g e = e ∙ ap number_of (sym (cond-false _ _ _ g))
-    on false b false g e = e ∙ ap number_of (sym (cond-false _ _ _ g))
-
-pub find-true : {X : Type 0} (p : X → Bool) (xs : List X) (x : X) → find p xs ≡ Some x → p x ≡ true
-find-true p [] x e = cc
-find-true p (y ∷ ys) x e = on (p y) refl (find-true p ys x) e
-  where
-    on : (t : Bool) → p y ≡ t → (find p ys ≡ Some x → p x ≡ true) → cond t (Some y) (find p ys) ≡ Some x → p x ≡ true
-    on true t rec e =
-        let same : y ≡ x = cc in
-        subst (λ z. p z ≡ true) same t
-    on false t rec e = rec e
-
--- a packet of the list, with its number
-abbrev At : ℕ → List Packet → Sent → Type 0
-At k [] s = ⊥
-At k (p ∷ ps) s = (record { number = k; packet = p } ≡ s) ⊎ At (k + 1) ps s
-
-find-at : (g : Sent → Bool) (del : List ℕ) (k : ℕ) (ps : List Packet) (s : Sent) → find g (undelivered del k ps) ≡ Some s → At k ps s
-find-at g del k [] s e = cc
-find-at g del k (p ∷ ps) s e = on (is_delivered del k) (find-at g del (k + 1) ps s) e
-  where
-    here : (t : Bool) → (find g (undelivered del (k + 1) ps) ≡ Some s → At (k + 1) ps s)
-        → cond t (Some (record { number = k; packet = p })) (find g (undelivered del (k + 1) ps)) ≡ Some s → At k (p ∷ ps) s
-    here true rec e =
-        let same : record { number = k; packet = p } ≡ s = cc in
-        inl same
-    here false rec e = inr (rec e)
-
-    on : (t : Bool) → (find g (undelivered del (k + 1) ps) ≡ Some s → At (k + 1) ps s)
-        → find g (cond t (undelivered del (k + 1) ps) (record { number = k; packet = p } ∷ undelivered del (k + 1) ps)) ≡ Some s → At k (p ∷ ps) s
-    on true rec e = inr (rec e)
-    on false rec e = here (g (record { number = k; packet = p })) rec e
-
-at-within : (k : ℕ) (ps : List Packet) (s : Sent) → At k ps s → (k ≤ s.number) × (s.number < k + length ps)
-at-within k [] s i = elim i [ ]
-at-within k (p ∷ ps) s (inl e) =
-    let n : k ≡ s.number = ap (λ (t : Sent). t.number) e in
-    (omega arith, omega arith)
-at-within k (p ∷ ps) s (inr i) =
-    let low = (at-within (k + 1) ps s i).0 in
-    let high = (at-within (k + 1) ps s i).1 in
-    (omega arith, omega arith)
-
-at-get : (k : ℕ) (ps : List Packet) (s : Sent) → At k ps s → (n : ℕ) → s.number ≡ k + n → slice_get ps n ≡ Some s.packet
-at-get k [] s i n h = elim i [ ]
-at-get k (p ∷ ps) s (inl e) zero h = ap (λ (t : Sent). Some t.packet) e
-at-get k (p ∷ ps) s (inl e) (suc n) h =
-    let m : k ≡ s.number = ap (λ (t : Sent). t.number) e in
-    absurd (omega arith)
-at-get k (p ∷ ps) s (inr i) zero h =
-    let low = (at-within (k + 1) ps s i).0 in
-    absurd (omega arith)
-at-get k (p ∷ ps) s (inr i) (suc n) h = at-get (k + 1) ps s i n (omega arith)
+packet-get : (sent : List Sent) (place : ℕ) (s : Sent) → slice_get sent place ≡ Some s → slice_get (map packet_of sent) place ≡ Some s.packet
+packet-get [] place s e = absurd (cc)
+packet-get (u ∷ us) zero s e =
+    let is : u ≡ s = cc in
+    ap (λ (v : Sent). Some v.packet) is
+packet-get (u ∷ us) (suc place) s e = packet-get us place s e
 
 nth-get : (ps : List Packet) (n : ℕ) (p : Packet) → 1 ≤ n → ((m : ℕ) → n ≡ 1 + m → slice_get ps m ≡ Some p) → nth ps n ≡ Some p
 nth-get ps zero p l h = absurd (omega arith)
@@ -163,17 +88,74 @@ nth-get ps (suc m) p l h =
     let e : suc m - 1 ≡ m = omega arith in
     cond-true _ _ _ t ∙ ap (λ i. slice_get ps i) e ∙ h m (omega arith)
 
-pub first-sent : (g : Sent → Bool) (del : List ℕ) (ps : List Packet) (s : Sent) → find g (undelivered del 1 ps) ≡ Some s → nth ps s.number ≡ Some s.packet
-first-sent g del ps s e =
-    let i = find-at g del 1 ps s e in
-    nth-get ps s.number s.packet ((at-within 1 ps s i).0) (λ m h. at-get 1 ps s i m h)
+-- the packet of the number is that of the place
+pub nth-place : (k : Kept) (w : World) (place number : ℕ) (s : Sent) → StandsFor k w → slice_get k.sent place ≡ Some s → number ≡ place + 1
+    → nth w.packets number ≡ Some s.packet
+nth-place k w place number s h at is =
+    ap (λ ps. nth ps number) h.packets
+    ∙ nth-get (map packet_of k.sent) number s.packet (omega arith) (λ m e.
+    let same : m ≡ place = omega arith in
+    ap (λ i. slice_get (map packet_of k.sent) i) same ∙ packet-get k.sent place s at)
 
-pub first-within : (g : Sent → Bool) (del : List ℕ) (ps : List Packet) (s : Sent) → find g (undelivered del 1 ps) ≡ Some s → s.number ≤ length ps
-first-within g del ps s e =
-    let high = (at-within 1 ps s (find-at g del 1 ps s e)).1 in
-    omega arith
+-- AN EVENT AT A SITE
+stands_event : (k : Kept) (w : World) (e : Event) → StandsFor k w → StandsFor (after_event k e) (at_site w 1 e)
+stands_event k w e h =
+    let r : Stepped = site_step k.site e in
+    let at : at_site w 1 e ≡ stepped w 1 r = ap (λ sites. at_one w 1 e (nth sites 1)) h.sites in
+    subst (λ v. StandsFor (after_step k r) v) (sym at) (record {
+      sites = ap (λ sites. slice_set sites 0 r.site) h.sites;
+      packets = ap (λ ps. ps ++ r.out.packets) h.packets ∙ sym (packets-append k.sent r.out.packets);
+      marked = λ i. h.marked i ∙ sym (marked-append k.sent r.out.packets i);
+      before = λ i low high. marked-append k.sent r.out.packets i ∙ h.before i low high;
+      history = noted-append no_history w.notes r.out.notes ∙ ap (λ t. noted_all t r.out.notes) h.history;
+      sessions = how_many-append is_opening w.notes r.out.notes ∙ ap (λ n. n + opened_in r.out.notes) h.sessions;
+      transactions = how_many-append is_beginning w.notes r.out.notes ∙ ap (λ n. n + begun_in r.out.notes) h.transactions;
+    })
+  where
+    packets-append : (sent : List Sent) (ps : List Packet) → map packet_of (sent ++ unmarked ps) ≡ map packet_of sent ++ ps
+    packets-append [] [] = refl
+    packets-append [] (p ∷ ps) = ap (λ qs. p ∷ qs) (packets-append [] ps)
+    packets-append (s ∷ ss) ps = ap (λ qs. packet_of s ∷ qs) (packets-append ss ps)
 
--- ONE MORE IS DELIVERED
+-- where no site is
+nth-none : (site : Site) (s : ℕ) → (s == 1) ≡ false → nth (site ∷ []) s ≡ None
+nth-none site zero e = refl
+nth-none site (suc zero) e = absurd (cc)
+nth-none site (suc (suc s)) e =
+    let t : nat_lt 0 (suc (suc s)) ≡ true = grind (arith, nat_tests) in
+    let m : suc (suc s) - 1 ≡ suc s = omega arith in
+    cond-true _ _ _ t ∙ ap (λ i. slice_get (site ∷ []) i) m
+
+stands_nothing : (k : Kept) (w : World) (s : ℕ) (e : Event) → StandsFor k w → (s == 1) ≡ false → StandsFor (after_nothing k) (at_site w s e)
+stands_nothing k w s e h other =
+    let at : at_site w s e ≡ w = ap (λ sites. at_one w s e (nth sites s)) h.sites ∙ ap (at_one w s e) (nth-none k.site s other) in
+    subst (λ v. StandsFor (after_nothing k) v) (sym at) (record {
+      sites = h.sites;
+      packets = h.packets;
+      marked = h.marked;
+      before = h.before;
+      history = h.history;
+      sessions = h.sessions;
+      transactions = h.transactions;
+    })
+
+pub stands_at : (k : Kept) (w : World) (s : ℕ) (e : Event) → StandsFor k w → StandsFor (after_at k s e) (at_site w s e)
+stands_at k w s e h = on (s == 1) refl
+  where
+    on : (t : Bool) → (s == 1) ≡ t → StandsFor (cond t (after_event k e) (after_nothing k)) (at_site w s e)
+    on true t =
+        let same : s ≡ 1 = grind (arith, nat_tests) in
+        subst (λ n. StandsFor (after_event k e) (at_site w n e)) (sym same) (stands_event k w e h)
+    on false t = stands_nothing k w s e h t
+
+pub events-at : (k : Kept) (s : ℕ) (e : Event) → (after_at k s e).events ≡ k.events + 1
+events-at k s e = on (s == 1)
+  where
+    on : (t : Bool) → (cond t (after_event k e) (after_nothing k)).events ≡ k.events + 1
+    on true = refl
+    on false = refl
+
+-- A PACKET IS DELIVERED
 or-false : (a b : Bool) → b ≡ false → (a || (b || false)) ≡ a
 or-false true b e = refl
 or-false false true e = e
@@ -192,54 +174,99 @@ del-same del n m e =
     let t : (n == m) ≡ true = grind (arith, nat_tests) in
     list_any-append (λ j. j == m) del (n ∷ []) ∙ or-true (is_delivered del m) (n == m) t
 
-del-more : (del : List ℕ) (n m : ℕ) → is_delivered del m ≡ true → is_delivered (del ++ n ∷ []) m ≡ true
-del-more del n m e = list_any-append (λ j. j == m) del (n ∷ []) ∙ ap (λ t. t || ((n == m) || false)) e
-
-undelivered-past : (del : List ℕ) (n k : ℕ) (ps : List Packet) → n < k → undelivered (del ++ n ∷ []) k ps ≡ undelivered del k ps
-undelivered-past del n k [] l = refl
-undelivered-past del n k (p ∷ ps) l =
-    let t : (n == k) ≡ false = grind (arith, nat_tests) in
-    ap (λ d. cond d (undelivered (del ++ n ∷ []) (k + 1) ps) (record { number = k; packet = p } ∷ undelivered (del ++ n ∷ []) (k + 1) ps)) (del-other del n k t)
-    ∙ ap (λ ss. cond (is_delivered del k) ss (record { number = k; packet = p } ∷ ss)) (undelivered-past del n (k + 1) ps (omega arith))
-
--- a list without the first that passes
-abbrev pub gone : {X : Type 0} → (X → Bool) → List X → List X
-gone g [] = []
-gone g (x ∷ xs) = cond (g x) xs (x ∷ gone g xs)
-
-pub undelivered-gone : (g : Sent → Bool) (del : List ℕ) (k : ℕ) (ps : List Packet) (s : Sent) → find g (undelivered del k ps) ≡ Some s
-    → undelivered (del ++ s.number ∷ []) k ps ≡ gone g (undelivered del k ps)
-undelivered-gone g del k [] s e = refl
-undelivered-gone g del k (p ∷ ps) s e = on (is_delivered del k) refl (undelivered-gone g del (k + 1) ps s) e
+stands_marked : (k : Kept) (w : World) (place number : ℕ) (s : Sent) → StandsFor k w → slice_get k.sent place ≡ Some s → number ≡ place + 1
+    → StandsFor (marked place s k) (delivered w number)
+stands_marked k w place number s h at is = record {
+  sites = h.sites;
+  packets = h.packets ∙ sym (packets-set k.sent place s (record s { delivered = true }) at refl);
+  marked = λ i. mark i (number == (i + 1)) refl;
+  before = λ i low high. keep i (h.before i low high) (number == (i + 1)) refl;
+  history = h.history;
+  sessions = h.sessions;
+  transactions = h.transactions;
+}
   where
-    here : (u : Bool) → is_delivered del k ≡ false
-        → (find g (undelivered del (k + 1) ps) ≡ Some s → undelivered (del ++ s.number ∷ []) (k + 1) ps ≡ gone g (undelivered del (k + 1) ps))
-        → cond u (Some (record { number = k; packet = p })) (find g (undelivered del (k + 1) ps)) ≡ Some s
-        → cond (is_delivered (del ++ s.number ∷ []) k) (undelivered (del ++ s.number ∷ []) (k + 1) ps) (record { number = k; packet = p } ∷ undelivered (del ++ s.number ∷ []) (k + 1) ps)
-        ≡ cond u (undelivered del (k + 1) ps) (record { number = k; packet = p } ∷ gone g (undelivered del (k + 1) ps))
-    here true t rec e =
-        let same : record { number = k; packet = p } ≡ s = cc in
-        let n : k ≡ s.number = ap (λ (x : Sent). x.number) same in
-        cond-true _ _ _ (del-same del s.number k (sym n)) ∙ undelivered-past del s.number (k + 1) ps (omega arith)
-    here false t rec e =
-        let low = (at-within (k + 1) ps s (find-at g del (k + 1) ps s e)).0 in
-        let other : (s.number == k) ≡ false = grind (arith, nat_tests) in
-        cond-false _ _ _ (del-other del s.number k other ∙ t) ∙ ap (λ ss. record { number = k; packet = p } ∷ ss) (rec e)
+    done : Sent
+    done = record s { delivered = true }
 
-    on : (t : Bool) → is_delivered del k ≡ t
-        → (find g (undelivered del (k + 1) ps) ≡ Some s → undelivered (del ++ s.number ∷ []) (k + 1) ps ≡ gone g (undelivered del (k + 1) ps))
-        → find g (cond t (undelivered del (k + 1) ps) (record { number = k; packet = p } ∷ undelivered del (k + 1) ps)) ≡ Some s
-        → cond (is_delivered (del ++ s.number ∷ []) k) (undelivered (del ++ s.number ∷ []) (k + 1) ps) (record { number = k; packet = p } ∷ undelivered (del ++ s.number ∷ []) (k + 1) ps)
-        ≡ gone g (cond t (undelivered del (k + 1) ps) (record { number = k; packet = p } ∷ undelivered del (k + 1) ps))
-    on true t rec e = cond-true _ _ _ (del-more del s.number k t) ∙ rec e
-    on false t rec e = here (g (record { number = k; packet = p })) t rec e
+    there : (i : ℕ) → (number == (i + 1)) ≡ true → is_marked_at (slice_set k.sent place (record s { delivered = true })) i ≡ true
+    there i t =
+        let same : i ≡ place = grind (arith, nat_tests) in
+        ap (λ j. is_marked_at (slice_set k.sent place (record s { delivered = true })) j) same ∙ marked-same k.sent place s (record s { delivered = true }) at
 
-pub delivered-within : (del : List ℕ) (n top : ℕ) → ((m : ℕ) → is_delivered del m ≡ true → m ≤ top) → n ≤ top → (m : ℕ) → is_delivered (del ++ n ∷ []) m ≡ true → m ≤ top
-delivered-within del n top h l m d = on (is_delivered del m) refl (n == m) refl (sym (list_any-append (λ j. j == m) del (n ∷ [])) ∙ d)
+    elsewhere : (i : ℕ) → (number == (i + 1)) ≡ false → is_marked_at (slice_set k.sent place (record s { delivered = true })) i ≡ is_marked_at k.sent i
+    elsewhere i t = marked-other k.sent place i (record s { delivered = true }) (λ e. let same : (number == (i + 1)) ≡ true = grind (arith, nat_tests) in cc)
+
+    mark : (i : ℕ) (t : Bool) → (number == (i + 1)) ≡ t → is_delivered (w.delivered ++ number ∷ []) (i + 1) ≡ is_marked_at (slice_set k.sent place (record s { delivered = true })) i
+    mark i true t =
+        let same : number ≡ i + 1 = grind (arith, nat_tests) in
+        del-same w.delivered number (i + 1) same ∙ sym (there i t)
+    mark i false t = del-other w.delivered number (i + 1) t ∙ h.marked i ∙ sym (elsewhere i t)
+
+    keep : (i : ℕ) → is_marked_at k.sent i ≡ true → (t : Bool) → (number == (i + 1)) ≡ t → is_marked_at (slice_set k.sent place (record s { delivered = true })) i ≡ true
+    keep i was true t = there i t
+    keep i was false t = elsewhere i t ∙ was
+
+pub stands_delivery : (k : Kept) (w : World) (place number : ℕ) (s : Sent) → StandsFor k w → slice_get k.sent place ≡ Some s → number ≡ place + 1
+    → StandsFor (after_delivery place s k) (happens w (Comes number))
+unfolding happens
+stands_delivery k w place number s h at is =
+    let sent : nth w.packets number ≡ Some s.packet = nth-place k w place number s h at is in
+    subst (λ o. StandsFor (after_delivery place s k) (comes w number o)) (sym sent)
+    (stands_at (marked place s k) (delivered w number) s.packet.to.site (event.Take s.packet) (stands_marked k w place number s h at is))
+
+-- THE CURSOR MOVES
+pub stands_skipped : (k next : Kept) (w : World) → StandsFor k w → HasSkipped k next → StandsFor next w
+stands_skipped k next w h skip =
+    subst (λ (m : Kept). StandsFor m w) (sym skip.same) (record {
+      sites = h.sites;
+      packets = h.packets;
+      marked = h.marked;
+      before = λ i low high. on i high (nat_lt i k.cursor) refl;
+      history = h.history;
+      sessions = h.sessions;
+      transactions = h.transactions;
+    })
   where
-    on : (a : Bool) → is_delivered del m ≡ a → (b : Bool) → (n == m) ≡ b → (a || (b || false)) ≡ true → m ≤ top
-    on true x b y e = h m x
-    on false x true y e =
-        let same : n ≡ m = grind (arith, nat_tests) in
-        omega arith
-    on false x false y e = absurd (cc)
+    on : (i : ℕ) → i < next.cursor → (t : Bool) → nat_lt i k.cursor ≡ t → is_marked_at k.sent i ≡ true
+    on i high true t =
+        let under : i < k.cursor = grind (arith, nat_tests) in
+        h.before i (omega arith) under
+    on i high false t =
+        let over : k.cursor ≤ i = grind (arith, nat_tests) in
+        skip.over i over high
+
+-- A PLACE THAT IS DELIVERED
+pub delivered_is : (old : List Sent) (place : ℕ) (r m : Sent) (packet : Packet) → place < length old → r ≡ get_or old place r → m ≡ get_or old place m → packet ≡ r.packet
+    → IsDelivered place old (slice_set old place (record { packet = m.packet; delivered = true })) packet
+delivered_is old place r m packet within here there is =
+    let first : slice_get old place ≡ Some r = slice_get-get_or old place r within ∙ ap Some (sym here) in
+    let second : slice_get old place ≡ Some m = slice_get-get_or old place m within ∙ ap Some (sym there) in
+    let same : r ≡ m = cc in
+    record { sent = m; at = second; is = is ∙ ap packet_of same; marked = refl }
+
+-- and then its packet comes
+pub come_of : {A : Type 0} (r : Result A WorldFault) (place : ℕ) (old new : Kept) (after : List Sent) (packet : Packet) → IsDelivered place old.sent after packet
+    → OnOk r (new ≡ after_at (record old { sent = after }) packet.to.site (event.Take packet)) → LimitSays r (passed_by (after_at (record old { sent = after }) packet.to.site (event.Take packet)))
+    → HasCome r place old new
+come_of r place old new after packet d happened limit =
+    let same : after_at (record old { sent = after }) packet.to.site (event.Take packet) ≡ after_delivery place d.sent old =
+    λ i. after_at (record old { sent = d.marked i }) (d.is i).to.site (event.Take (d.is i))
+    in
+    record {
+      sent = d.sent;
+      at = d.at;
+      after = subst (λ k. OnOk r (new ≡ k)) same happened;
+      limit = subst (λ k. LimitSays r (passed_by k)) same limit;
+    }
+
+some-place : {X : Type 0} (xs : List X) (i : ℕ) → i < length xs → (x : X) × (slice_get xs i ≡ Some x)
+some-place [] i l = absurd (omega arith)
+some-place (x ∷ xs) zero l = (x, refl)
+some-place (x ∷ xs) (suc i) l = some-place xs i (omega arith)
+
+-- or memory ran out
+pub come_not : {A : Type 0} (place : ℕ) (old new : Kept) → place < length old.sent → HasCome {A = A} (Err fault.Memory) place old new
+come_not place old new within =
+    let there = some-place old.sent place within in
+    record { sent = there.0; at = there.1; after = tt; limit = tt }

@@ -1,3 +1,5 @@
 pub mod Direct
+pub mod Found
+pub mod Limits
 pub mod Kept
 pub mod Lines

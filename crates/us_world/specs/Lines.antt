@@ -1,5 +1,5 @@
--- What the lines of a schedule stand for.
-use Rattle.std.specs.Prelude.{◌≡◌, ⊤, ℕ, Bool, List, [], ◌∷◌, ◌++◌, map}
+-- What the lines of a schedule come to by code, and the report at their end.
+use Rattle.std.specs.Prelude.{◌≡◌, ⊤, ℕ, ◌+◌, Bool, List, [], ◌∷◌, length, map, Some, None, Option, IfOk, IfErr, Result}
 use Rattle.us_schedule.specs.declared.line.Line.{Line}
 use Rattle.us_schedule.specs.declared.line.Line.TheVariants as line
 use Rattle.us_exec.specs.declared.Done.{Done}
@@ -7,54 +7,62 @@ use Rattle.us_exec.specs.declared.Execution.{Execution}
 use Rattle.us_exec.specs.Consistency.{IsPor}
 use Rattle.us_report.specs.declared.report.Report.{Report}
 use Rattle.us_report.specs.declared.report.Waiting.{Waiting}
-use Rattle.us_model.specs.Worlds.{World, Happening, Opens, Sends, Flushes, Waits, waits_of, run, start}
+use Rattle.us_model.specs.State.{Spaces}
+use Rattle.us_model.specs.Worlds.{World, Happening, Waits, waits_of, run, start}
 use Rattle.us_model.specs.Executions.{execution_of, refusals_of}
 use Rattle.us_order.specs.Pasts.{direct_execution}
 use Rattle.us_world.specs.Direct.{reported}
 use Rattle.us_world.specs.Kept.{Kept, StandsFor}
+use Rattle.us_world.specs.Limits.{Performs, Begins, delivery, limit_of, Outcome, Reaches, Passes, Leads}
+use Rattle.us_world.specs.declared.fault.WorldFault.{WorldFault}
+use Rattle.us_world.specs.declared.fault.WorldFault.TheVariants as fault
+use Rattle.us_world.specs.declared.fault.LinesFault.{LinesFault}
+use Rattle.us_world.specs.declared.fault.LinesFault.TheVariants as ends
+use Rattle.us_world.specs.declared.fault.Numbered.{Numbered}
 
--- the happenings that a line stands for in a world: the lines that this stage builds
-abbrev pub Performs : Line → World → List Happening → Type 0
-Performs (line.Open site coord) w hs = hs ≡ Opens site coord ∷ []
-Performs (line.Bytes site coord session piece) w hs = hs ≡ Sends site coord session piece ∷ []
-Performs (line.Flush from to) w hs = Flushes from to w hs
-Performs (line.Close site coord session) w hs = ⊥
-Performs (line.Tick site actor clock) w hs = ⊥
-Performs (line.Deliver number) w hs = ⊥
-Performs (line.Lead site) w hs = ⊥
-Performs (line.Forward site origin) w hs = ⊥
-Performs (line.Crash site) w hs = ⊥
-Performs (line.Settle clock rounds) w hs = ⊥
-
--- the lines that this stage builds: at the first coordinator of the one site
+-- the lines that this stage builds
 abbrev pub IsBuilt : Line → Type 0
-IsBuilt (line.Open site coord) = (site ≡ 1) × (coord ≡ 1)
-IsBuilt (line.Bytes site coord session piece) = (site ≡ 1) × (coord ≡ 1)
-IsBuilt (line.Flush from to) = (from ≡ 1) × (to ≡ 1)
-IsBuilt (line.Close site coord session) = ⊥
+IsBuilt (line.Open site coord) = ⊤
+IsBuilt (line.Bytes site coord session piece) = ⊤
+IsBuilt (line.Close site coord session) = ⊤
+IsBuilt (line.Deliver number) = ⊤
+IsBuilt (line.Flush from to) = ⊤
 IsBuilt (line.Tick site actor clock) = ⊥
-IsBuilt (line.Deliver number) = ⊥
 IsBuilt (line.Lead site) = ⊥
 IsBuilt (line.Forward site origin) = ⊥
 IsBuilt (line.Crash site) = ⊥
 IsBuilt (line.Settle clock rounds) = ⊥
 
-abbrev pub AllBuilt : List Line → Type 0
+abbrev pub AllBuilt : List Numbered → Type 0
 AllBuilt [] = ⊤
-AllBuilt (l ∷ ls) = IsBuilt l × AllBuilt ls
+AllBuilt (l ∷ ls) = IsBuilt l.line × AllBuilt ls
+
+-- what is kept goes from one to the other by happenings that are such for the world, within the limits
+abbrev pub GoesBy : (World → List Happening → Type 0) → Kept → Kept → Type 0
+GoesBy Are old new =
+    (w : World) → StandsFor old w
+    → (hs : List Happening) × Are w hs × (limit_of old.events hs w ≡ None) × StandsFor new (run hs w) × (new.events ≡ old.events + length hs)
+
+-- such happenings pass a limit
+abbrev pub PassesBy : (World → List Happening → Type 0) → Kept → WorldFault → Type 0
+PassesBy Are old which = (w : World) → StandsFor old w → (hs : List Happening) × Are w hs × (limit_of old.events hs w ≡ Some which)
+
+-- a fault is a limit that such happenings pass, unless memory ran out
+abbrev pub StoppedBy : (World → List Happening → Type 0) → Kept → WorldFault → Type 0
+StoppedBy Are old fault.Memory = ⊤
+StoppedBy Are old which = PassesBy Are old which
 
 -- what is kept goes from one to the other by what the line stands for
 abbrev pub IsPerformed : Line → Kept → Kept → Type 0
-IsPerformed l old new = (w : World) → StandsFor old w → (hs : List Happening) × Performs l w hs × StandsFor new (run hs w)
+IsPerformed l old new = GoesBy (Performs l) old new
 
--- and by a flush from one site to the one that there is
-abbrev pub IsFlushed : ℕ → Kept → Kept → Type 0
-IsFlushed from old new = (w : World) → StandsFor old w → (hs : List Happening) × Flushes from 1 w hs × StandsFor new (run hs w)
+-- the first happenings of the line pass that limit, unless memory ran out
+abbrev pub IsStopped : Line → Kept → WorldFault → Type 0
+IsStopped l old which = StoppedBy (Begins l) old which
 
--- the happenings that lines stand for, each line in the world that the lines before it leave
-abbrev pub StandFor : List Line → World → List Happening → Type 0
-StandFor [] w hs = hs ≡ []
-StandFor (l ∷ ls) w hs = (first : List Happening) × (rest : List Happening) × (hs ≡ first ++ rest) × Performs l w first × StandFor ls (run first w) rest
+-- the happenings are the coming of the packet of this number, where so many were sent
+abbrev pub IsDelivery : ℕ → World → List Happening → Type 0
+IsDelivery number w hs = hs ≡ delivery number w
 
 -- THE REPORT OF A WORLD
 abbrev pub waiting : Waits → Waiting
@@ -67,11 +75,40 @@ report_of w = record { execution = execution_of w.notes; refused = map reported 
 abbrev pub report_of_kept : Kept → Report
 report_of_kept k = record { execution = direct_execution k.history; refused = map reported k.history.refused; waiting = map waiting (waits_of (k.site ∷ [])) }
 
+-- the lines lead from the opening world with these spaces to this world
+abbrev pub LeadTo : Spaces → List Numbered → World → Type 0
+LeadTo spaces lines w = Leads lines 0 (start spaces) (Reaches w)
+
+-- the lines pass a limit at the line of this number
+abbrev pub PassAt : Spaces → List Numbered → ℕ → WorldFault → Type 0
+PassAt spaces lines number which = Leads lines 0 (start spaces) (Passes number which)
+
+-- what is kept stands for a world that the lines lead to
+pub record HasReached (spaces : Spaces) (lines : List Numbered) (k : Kept) : Type 0 where
+  pub world : World
+  pub stands : StandsFor k world
+  pub leads : LeadTo spaces lines world
+
+-- the lines lead to some world
+pub record LeadOn (spaces : Spaces) (lines : List Numbered) : Type 0 where
+  pub world : World
+  pub leads : LeadTo spaces lines world
+
 -- the report is that of the world which the lines lead to
-pub record IsReportOf (lines : List Line) (report : Report) : Type 0 where
-  pub happenings : List Happening
-  pub stand : StandFor lines start happenings
-  pub is : report ≡ report_of (run happenings start)
+pub record IsReportOf (spaces : Spaces) (lines : List Numbered) (report : Report) : Type 0 where
+  pub world : World
+  pub leads : LeadTo spaces lines world
+  pub is : report ≡ report_of world
+
+-- the lines pass that limit at that line, unless memory ran out
+abbrev pub IsLimitOf : Spaces → List Numbered → LinesFault → Type 0
+IsLimitOf spaces lines (ends.Limit number which) = PassAt spaces lines number which
+IsLimitOf spaces lines ends.Memory = ⊤
+
+-- the fault of a line
+abbrev pub fault_at : ℕ → WorldFault → LinesFault
+fault_at number fault.Memory = ends.Memory
+fault_at number which = ends.Limit number which
 
 -- consistent, whatever conflicts are declared
 abbrev pub IsConsistent : Execution → Type 0

@@ -1,16 +1,17 @@
 //! The execution that a history tells.
 ghost use Rattle.std.specs.Prelude.{◌≡◌, IfOk, map};
-ghost use Rattle.std.specs.List.{list_any};
-ghost use Rattle.us_kind.specs.Words.{tid_eq};
-ghost use Rattle.us_model.specs.Executions.{end_of, is_committed, sessions_of};
+ghost use Rattle.us_model.specs.Executions.{Committed, is_committed, sessions_of};
 ghost use Rattle.us_order.specs.Pasts.{direct_entry_of, direct_entries, direct_loose, direct_loose_one, direct_execution};
 ghost use Rattle.us_world.specs.Direct.{reported};
 
-use crate::history::{Beginning, Commit, History, operations_of};
+use crate::beginnings::Beginning;
+use crate::commits::{Commit, Commits};
+use crate::history::History;
 use crate::order::{arbitrated, sessions_of};
 use crate::past::past_of;
 use std::alloc::Global;
-use us_exec::{Done, Entry, Execution, Loose, LooseEnd, SessionName};
+use us_exec::{Done, Entry, Execution, Loose, SessionName};
+use us_index::Listed;
 use us_kind::{Items, Memory, Tid};
 use us_report::Refusal;
 
@@ -18,7 +19,7 @@ use us_report::Refusal;
 fn entry_of(
     alloc: Global,
     sessions: &[SessionName],
-    committed: &[Commit],
+    committed: &Commits,
     commit: &Commit,
 ) -> Result<Entry, Memory>
     requires { sessions.now ≡ sessions_of committed.now }
@@ -49,7 +50,7 @@ fn copies(alloc: Global, ops: &[Done]) -> Result<Items<Done>, Memory>
 fn entries_of(
     alloc: Global,
     sessions: &[SessionName],
-    committed: &[Commit],
+    committed: &Commits,
     order: &[&Commit],
 ) -> Result<Items<Entry>, Memory>
     requires { sessions.now ≡ sessions_of committed.now }
@@ -62,47 +63,27 @@ fn entries_of(
     Ok(entries)
 }
 
-/// Whether a transaction is among the committed ones.
-fn is_committed(tid: &Tid, committed: &[Commit]) -> bool
-    ensures { result ≡ is_committed tid.now committed.now }
+/// The transactions that are committed, in order of decision.
+fn committed_tids(alloc: Global, committed: &[Commit]) -> Result<Listed<Tid>, Memory>
+    ensures { IfOk result (λ tids. tids ≡ map (λ (c : Committed). c.begun.tid) committed.now) }
 {
-    committed.iter().any(|commit| commit.begun.tid.same(tid))
-}
-
-/// How a transaction stands that was begun and isn't committed.
-fn end_of(tid: &Tid, left: &[Tid]) -> LooseEnd
-    ensures { result ≡ end_of tid.now left.now }
-{
-    if contains(left, tid) {
-        LooseEnd::Left
-    } else {
-        LooseEnd::Open
+    let mut tids = Listed::new(alloc);
+    for commit in committed {
+        tids.push(commit.begun.tid)?;
     }
-}
-
-fn contains(tids: &[Tid], tid: &Tid) -> bool
-    ensures { result ≡ list_any (λ t. tid_eq t tid.now) tids.now }
-{
-    tids.iter().any(|other| other.same(tid))
+    Ok(tids)
 }
 
 impl History {
     /// The execution so far: the committed transactions in arbitration order, and the others in order of
     /// beginning, each with its operations and its past.
-    ///
-    /// A past is counted by looking at every committed transaction for every session.
     pub fn execution(&self, alloc: Global) -> Result<Execution, Memory>
         ensures { IfOk result (λ execution. execution ≡ direct_execution self.now) }
     {
         let sessions = sessions_of(alloc, self.committed())?;
         let order = arbitrated(alloc, self.committed())?;
         Ok(Execution {
-            entries: entries_of(
-                alloc,
-                sessions.as_slice(),
-                self.committed(),
-                order.as_slice(),
-            )?,
+            entries: entries_of(alloc, sessions.as_slice(), self.commits(), order.as_slice())?,
             loose: self.loose(alloc, sessions.as_slice())?,
             links: Items::new(alloc),
         })
@@ -123,16 +104,26 @@ impl History {
         Ok(refusals)
     }
 
+    /// Whether a transaction is committed. `committed` are those that are.
+    fn is_committed(&self, committed: &Listed<Tid>, tid: &Tid) -> bool
+        requires { committed.now ≡ map (λ (c : Committed). c.begun.tid) self.now.committed }
+        ensures { result ≡ is_committed tid.now self.now.committed }
+    {
+        committed.contains(tid)
+    }
+
     /// The transactions that aren't committed.
     fn loose(&self, alloc: Global, sessions: &[SessionName]) -> Result<Items<Loose>, Memory>
         requires { sessions.now ≡ sessions_of self.now.committed }
         ensures { IfOk result (λ loose. loose ≡ direct_loose self.now self.now.begun) }
     {
+        let committed = committed_tids(alloc, self.committed())?;
         let mut loose = Items::new(alloc);
         for beginning in self.begun() {
-            if !is_committed(&beginning.tid, self.committed()) {
-                loose.push(self.loose_one(alloc, sessions, beginning)?)?;
+            if self.is_committed(&committed, &beginning.tid) {
+                continue;
             }
+            loose.push(self.loose_one(alloc, sessions, beginning)?)?;
         }
         Ok(loose)
     }
@@ -150,9 +141,9 @@ impl History {
         Ok(Loose {
             tid: beginning.tid,
             session: beginning.session,
-            end: end_of(&beginning.tid, self.left()),
-            ops: operations_of(alloc, &beginning.tid, self.performed())?,
-            past: past_of(alloc, sessions, self.committed(), beginning)?,
+            end: self.end_of(&beginning.tid),
+            ops: self.operations_of(alloc, &beginning.tid)?,
+            past: past_of(alloc, sessions, self.commits(), beginning)?,
         })
     }
 }

@@ -1,14 +1,21 @@
 //! A world: sites and partitions in one process, and the execution that its run comes to.
 #![tactic(auto)]
 
+mod beginnings;
+mod commits;
 mod execution;
+mod fault;
 mod history;
+mod leading;
 mod order;
 mod past;
+mod performances;
 mod world;
 
+pub use fault::{LinesFault, Numbered, WorldFault};
 pub use history::History;
-pub use world::{Sent, World, report_of_lines};
+pub use leading::{outcomes_are_one, perform_lines, report_of_lines};
+pub use world::{Sent, World};
 
 #[cfg(test)]
 mod tests;

@@ -34,6 +34,13 @@ fn begun(site: u8, coord: u8, seq: u64, snapshot: Vector) -> Note {
     }
 }
 
+fn decided(site: u8, coord: u8, seq: u64, vector: Vector) -> Note {
+    Note::Decided {
+        tid: tid(site, coord, seq),
+        vector,
+    }
+}
+
 fn performed(alloc: Global, tid: Tid, item: &str, op: Op, answer: Answer) -> Result<Note, Memory> {
     Ok(Note::Performed {
         tid,
@@ -58,6 +65,44 @@ fn read(alloc: Global, tid: Tid, item: &str, value: &str) -> Result<Note, Memory
     performed(alloc, tid, item, Op::RegisterRead, Answer::Value { value })
 }
 
+/// Two sessions write, and the second one commits.
+fn two_write(alloc: Global, history: &mut History) -> Result<(), Memory> {
+    history.note(begun(1, 1, 1, vector(0, 0)))?;
+    history.note(begun(2, 1, 1, vector(0, 0)))?;
+    history.note(written(alloc, tid(1, 1, 1), "x", "a")?)?;
+    history.note(written(alloc, tid(2, 1, 1), "y", "b")?)?;
+    history.note(decided(2, 1, 1, vector(0, 5)))
+}
+
+/// A third one reads and commits, and then the first one commits.
+fn one_reads(alloc: Global, history: &mut History) -> Result<(), Memory> {
+    history.note(begun(1, 2, 1, vector(0, 5)))?;
+    history.note(read(alloc, tid(1, 2, 1), "y", "b")?)?;
+    history.note(decided(1, 2, 1, vector(0, 5)))?;
+    history.note(decided(1, 1, 1, vector(5, 0)))
+}
+
+/// One is left, and one commits.
+fn one_is_left(alloc: Global, history: &mut History) -> Result<(), Memory> {
+    history.note(begun(1, 1, 2, vector(5, 5)))?;
+    history.note(begun(2, 1, 2, vector(0, 5)))?;
+    history.note(written(alloc, tid(2, 1, 2), "x", "c")?)?;
+    history.note(read(alloc, tid(1, 1, 2), "x", "a")?)?;
+    history.note(Note::Left { tid: tid(2, 1, 2) })?;
+    history.note(decided(1, 1, 2, vector(5, 5)))
+}
+
+/// One is decided that was never begun, a request is refused, and one stays open.
+fn one_stays_open(history: &mut History) -> Result<(), Memory> {
+    history.note(decided(9, 1, 1, vector(1, 1)))?;
+    history.note(Note::Refused {
+        session: session(2, 1),
+        at: 4,
+        number: 3,
+    })?;
+    history.note(begun(2, 1, 3, vector(5, 5)))
+}
+
 /// The sums of the first three to commit are equal, and one of these only reads. One that is begun last is
 /// open, one left, and one is decided that was never begun.
 fn worked_history(alloc: Global) -> Result<History, Memory> {
@@ -66,43 +111,10 @@ fn worked_history(alloc: Global) -> Result<History, Memory> {
         coord: 1,
         session: 1,
     })?;
-    history.note(begun(1, 1, 1, vector(0, 0)))?;
-    history.note(begun(2, 1, 1, vector(0, 0)))?;
-    history.note(written(alloc, tid(1, 1, 1), "x", "a")?)?;
-    history.note(written(alloc, tid(2, 1, 1), "y", "b")?)?;
-    history.note(Note::Decided {
-        tid: tid(2, 1, 1),
-        vector: vector(0, 5),
-    })?;
-    history.note(begun(1, 2, 1, vector(0, 5)))?;
-    history.note(read(alloc, tid(1, 2, 1), "y", "b")?)?;
-    history.note(Note::Decided {
-        tid: tid(1, 2, 1),
-        vector: vector(0, 5),
-    })?;
-    history.note(Note::Decided {
-        tid: tid(1, 1, 1),
-        vector: vector(5, 0),
-    })?;
-    history.note(begun(1, 1, 2, vector(5, 5)))?;
-    history.note(begun(2, 1, 2, vector(0, 5)))?;
-    history.note(written(alloc, tid(2, 1, 2), "x", "c")?)?;
-    history.note(read(alloc, tid(1, 1, 2), "x", "a")?)?;
-    history.note(Note::Left { tid: tid(2, 1, 2) })?;
-    history.note(Note::Decided {
-        tid: tid(1, 1, 2),
-        vector: vector(5, 5),
-    })?;
-    history.note(Note::Decided {
-        tid: tid(9, 1, 1),
-        vector: vector(1, 1),
-    })?;
-    history.note(Note::Refused {
-        session: session(2, 1),
-        at: 4,
-        number: 3,
-    })?;
-    history.note(begun(2, 1, 3, vector(5, 5)))?;
+    two_write(alloc, &mut history)?;
+    one_reads(alloc, &mut history)?;
+    one_is_left(alloc, &mut history)?;
+    one_stays_open(&mut history)?;
     Ok(history)
 }
 

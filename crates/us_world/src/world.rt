@@ -1,37 +1,51 @@
-//! A world of one site, and the packets on their way in it.
-ghost use Rattle.std.specs.Prelude.{◌≡◌, ◌+◌, ◌++◌, ◌<◌, false, length, map, position, IfOk, IfSome, OnOk};
-ghost use Rattle.us_model.specs.Worlds.{start};
+//! A world of one site, and the packets of it.
+ghost use Rattle.std.specs.Prelude.{◌≡◌, ◌+◌, ◌++◌, ◌<◌, ◌^◌, true, false, length, map, IfOk, IfErr, IfSome, IfNone, OnOk};
+ghost use Rattle.us_model.specs.Worlds.{start, Flushes};
 ghost use Rattle.us_model.specs.Executions.{noted_all};
-ghost use Rattle.us_world.specs.Kept.{numbered, StandsFor, after_event, goes, HasCome};
-ghost use Rattle.us_world.specs.Lines.{waiting, IsBuilt, AllBuilt, IsPerformed, IsFlushed, report_of_kept, IsReportOf, IsConsistent};
+ghost use Rattle.us_world.specs.Kept.{AllMarked, StandsFor, unmarked, after_event, after_at, passed_by, is_due, is_due_at, NoneDue, HasSkipped, HasCome, IsDelivered, LimitSays};
+ghost use Rattle.us_world.specs.Limits.{Delivers, is_opening, is_beginning, opened_in, begun_in};
+ghost use Rattle.us_world.specs.Lines.{waiting, IsBuilt, GoesBy, StoppedBy, IsDelivery, IsPerformed, IsStopped, report_of_kept};
 
-use crate::History;
+use crate::{History, WorldFault};
 use std::alloc::Global;
 use std::marker::Model;
 use us_kind::{Bytes, Items, Memory};
-use us_order::{every_run_is_por, executions_are_direct};
 use us_peer_wire::Packet;
 use us_report::{Report, Waiting};
 use us_schedule::Line;
 use us_site::{Event, Note, Site, Unanswered};
+use us_value::Catalog;
 
 /// The site that there is.
 const SITE: u8 = 1;
 
-/// A packet that was sent, by its number among all, from 1.
+/// The most events of a run.
+const MOST_EVENTS: u64 = 1_000_000;
+
+/// The most sessions that are opened in a run.
+const MOST_SESSIONS: u64 = 512;
+
+/// The most transactions that are begun in a run.
+const MOST_TRANSACTIONS: u64 = 20_000;
+
+/// A packet that was sent, and whether it was delivered.
 #[derive(Drop)]
 pub struct Sent {
-    pub number: u64,
     pub packet: Packet,
+    pub delivered: bool,
 }
 
-/// A world: its site, the packets that weren't delivered, and what the site told.
+/// A world: its site, all packets that were ever sent, in order, and what the site told.
 #[derive(Drop)]
 pub struct World {
     site: Site,
-    sent: u64,
-    due: Vec<Sent>,
+    sent: Vec<Sent>,
+    // Each packet before this place was delivered.
+    cursor: usize,
     history: History,
+    events: u64,
+    sessions: u64,
+    transactions: u64,
 }
 
 impl Model for World {
@@ -39,30 +53,74 @@ impl Model for World {
 
     ghost Value = { Kept };
 
-    ghost view = { λ a. record { site = a.site.site; sent = a.sent; due = a.due.items; history = a.history; stopped = a.site.stopped } };
+    ghost view = { λ a. record { site = a.site.site; sent = a.sent.items; cursor = a.cursor; history = a.history; events = a.events; sessions = a.sessions; transactions = a.transactions; stopped = a.site.stopped } };
 }
 
-/// The number after it. One that doesn't fit its type counts as want of memory.
-fn after(n: u64) -> Result<u64, Memory>
-    ensures { IfOk result (λ next. next ≡ n + 1) }
+/// The sum. One that doesn't fit its type counts as want of memory.
+fn plus(count: u64, more: u64) -> Result<u64, Memory>
+    ensures { IfOk result (λ sum. sum ≡ count + more) }
 {
-    match n.checked_add(1) {
-        Some(next) => Ok(next),
+    match count.checked_add(more) {
+        Some(sum) => Ok(sum),
         None => Err(Memory),
     }
 }
 
-/// The packets get their numbers and are on their way.
-fn send_all(due: &mut Vec<Sent>, sent: u64, packets: Items<Packet>) -> Result<u64, Memory>
-    ensures due { OnOk result (due.new.items ≡ due.old.items ++ numbered (sent + 1) packets) }
-    ensures sent { IfOk result (λ now. now ≡ sent + length packets) }
+fn is_opening(note: &Note) -> bool
+    ensures { result ≡ is_opening note.now }
 {
-    let mut number = sent;
-    for packet in packets.into_vec() {
-        number = after(number)?;
-        due.push(Sent { number, packet })?;
+    match note {
+        Note::Opened { .. } => true,
+        _ => false,
     }
-    Ok(number)
+}
+
+fn is_beginning(note: &Note) -> bool
+    ensures { result ≡ is_beginning note.now }
+{
+    match note {
+        Note::Begun { .. } => true,
+        _ => false,
+    }
+}
+
+/// How many sessions the notes open.
+fn opened_in(notes: &[Note]) -> u64
+    ensures { result ≡ opened_in notes.now }
+{
+    let mut count = 0;
+    for note in notes {
+        if is_opening(note) {
+            count += 1;
+        }
+    }
+    count
+}
+
+/// How many transactions the notes begin.
+fn begun_in(notes: &[Note]) -> u64
+    ensures { result ≡ begun_in notes.now }
+{
+    let mut count = 0;
+    for note in notes {
+        if is_beginning(note) {
+            count += 1;
+        }
+    }
+    count
+}
+
+/// The packets are on their way.
+fn send_all(sent: &mut Vec<Sent>, packets: Items<Packet>) -> Result<(), Memory>
+    ensures { OnOk result (sent.new.items ≡ sent.old.items ++ unmarked packets) }
+{
+    for packet in packets.into_vec() {
+        sent.push(Sent {
+            packet,
+            delivered: false,
+        })?;
+    }
+    Ok(())
 }
 
 /// The notes are told.
@@ -75,11 +133,48 @@ fn tell_all(history: &mut History, notes: Items<Note>) -> Result<(), Memory>
     Ok(())
 }
 
-/// The place of the first packet from one site to another.
-fn first_due(due: &[Sent], from: u8, to: u8) -> Option<usize>
-    ensures { result ≡ position (goes from to) due.now }
+/// The first place, from this one on, of a packet that wasn't delivered.
+fn first_undelivered(sent: &[Sent], cursor: usize) -> usize
+    ensures { AllMarked sent.now cursor result }
 {
-    due.iter().position(|sent| sent.packet.from.site == from && sent.packet.to.site == to)
+    let mut place = cursor;
+    while place < sent.len() && sent[place].delivered {
+        place += 1;
+    }
+    place
+}
+
+/// A copy of the packet at this place, which is delivered from now on.
+fn delivered_copy(alloc: Global, sent: &mut Vec<Sent>, place: usize) -> Result<Packet, Memory>
+    requires { place < length sent.old.items }
+    ensures { IfOk result (λ packet. IsDelivered place sent.old.items sent.new.items packet) }
+{
+    let packet = sent[place].packet.copy(alloc)?;
+    sent[place].delivered = true;
+    Ok(packet)
+}
+
+/// A packet from one site to another is on its way.
+fn is_due(sent: &Sent, from: u8, to: u8) -> bool
+    ensures { result ≡ is_due from to sent.now }
+{
+    sent.packet.from.site == from && sent.packet.to.site == to && !sent.delivered
+}
+
+/// The first place, from this one on, of a packet from one site to another that wasn't delivered.
+fn first_due(sent: &[Sent], cursor: usize, from: u8, to: u8) -> Option<usize>
+    ensures found { IfSome result (λ place. (place < length sent.now) × (is_due_at from to sent.now place ≡ true)) }
+    ensures first { IfSome result (λ place. NoneDue from to sent.now cursor place) }
+    ensures none { IfNone result (NoneDue from to sent.now cursor (length sent.now)) }
+{
+    let mut place = cursor;
+    while place < sent.len() {
+        if is_due(&sent[place], from, to) {
+            return Some(place);
+        }
+        place += 1;
+    }
+    None
 }
 
 /// The sessions that wait, as a report has them.
@@ -97,83 +192,142 @@ fn waiting_of(alloc: Global, waits: &[Unanswered]) -> Result<Items<Waiting>, Mem
 }
 
 impl World {
-    /// A world in which nothing has happened.
-    pub fn new(alloc: Global) -> World
+    /// A world with these spaces in which nothing has happened.
+    pub fn new(alloc: Global, catalog: Catalog) -> World
         ensures running { result.stopped ≡ false }
-        ensures start { StandsFor result start }
+        ensures start { StandsFor result (start catalog) }
+        ensures events { result.events ≡ 0 }
     {
         World {
-            site: Site::new(alloc, SITE),
-            sent: 0,
-            due: Vec::new(alloc),
+            site: Site::new(alloc, SITE, catalog),
+            sent: Vec::new(alloc),
+            cursor: 0,
             history: History::new(alloc),
+            events: 0,
+            sessions: 0,
+            transactions: 0,
         }
     }
 
-    /// An event at the site. After want of memory the world is only dropped.
-    fn happen(&mut self, alloc: Global, event: Event) -> Result<(), Memory>
-        requires { self.old.stopped ≡ false }
+    /// An event at the site that there is, with its outputs. After want of memory the world is only dropped.
+    fn step(&mut self, alloc: Global, event: Event) -> Result<(), Memory>
+        requires running { self.old.stopped ≡ false }
+        requires room { self.old.events < 1000000 }
         ensures { OnOk result (self.new ≡ after_event self.old event) }
     {
         let out = self.site.step(alloc, event)?;
-        self.sent = send_all(&mut self.due, self.sent, out.packets)?;
+        self.events += 1;
+        self.sessions = plus(self.sessions, opened_in(out.notes.as_slice()))?;
+        self.transactions = plus(self.transactions, begun_in(out.notes.as_slice()))?;
+        send_all(&mut self.sent, out.packets)?;
         tell_all(&mut self.history, out.notes)
     }
 
-    /// The place of the first packet from a site to the one that there is.
-    fn first(&self, from: u8) -> Option<usize>
-        ensures place { result ≡ position (goes from 1) self.now.due }
-        ensures within { IfSome result (λ place. place < length self.now.due) }
-    {
-        first_due(self.due.as_slice(), from, SITE)
-    }
-
-    /// The packet at this place comes.
-    fn deliver(&mut self, alloc: Global, place: usize) -> Result<(), Memory>
+    /// An event at a site, also where there is none of that number, which changes nothing but counts.
+    fn step_at(&mut self, alloc: Global, site: u8, event: Event) -> Result<(), Memory>
         requires running { self.old.stopped ≡ false }
-        requires within { place < length self.old.due }
+        requires room { self.old.events < 1000000 }
         ensures running { OnOk result (self.new.stopped ≡ false) }
-        ensures comes { OnOk result (HasCome place self.old self.new) }
+        ensures happened { OnOk result (self.new ≡ after_at self.old site event) }
     {
-        let sent = self.due.remove(place);
-        self.happen(
-            alloc,
-            Event::Take {
-                packet: sent.packet,
-            },
-        )
+        if site == SITE {
+            return self.step(alloc, event);
+        }
+        self.events += 1;
+        Ok(())
     }
 
-    /// The packets from a site to the one that there is come, in order, and those that are sent meanwhile.
-    ///
-    /// A flush of more than 2^64 - 1 packets counts as want of memory. After that the world is only dropped.
-    #[tactic(auto, using(crate::proofs::Flushing::delivered_none))]
-    fn flush(&mut self, alloc: Global, from: u8) -> Result<(), Memory>
+    /// Whether the counts are within their limits.
+    fn within_limits(&self) -> Result<(), WorldFault>
+        ensures { LimitSays result (passed_by self.now) }
+    {
+        if self.events > MOST_EVENTS {
+            return Err(WorldFault::Events);
+        }
+        if self.sessions > MOST_SESSIONS {
+            return Err(WorldFault::Sessions);
+        }
+        if self.transactions > MOST_TRANSACTIONS {
+            return Err(WorldFault::Transactions);
+        }
+        Ok(())
+    }
+
+    /// An event at a site, within the limits. After a fault the world is only dropped.
+    fn happen(&mut self, alloc: Global, site: u8, event: Event) -> Result<(), WorldFault>
         requires { self.old.stopped ≡ false }
         ensures running { OnOk result (self.new.stopped ≡ false) }
-        ensures flushed { OnOk result (IsFlushed from self.old self.new) }
+        ensures happened { OnOk result (self.new ≡ after_at self.old site event) }
+        ensures limit { LimitSays result (passed_by (after_at self.old site event)) }
     {
-        'flush: for _ in 0..u64::MAX {
-            let Some(place) = self.first(from) else {
-                return Ok(());
-            };
-            self.deliver(alloc, place)?;
+        if self.events >= MOST_EVENTS {
+            return Err(WorldFault::Events);
         }
-        Err(Memory)
+        self.step_at(alloc, site, event)?;
+        self.within_limits()
     }
 
-    /// What the line stands for happens. After want of memory the world is only dropped.
-    #[tactic(auto, using(crate::proofs::Lines::flush_performs))]
-    pub fn perform(&mut self, alloc: Global, line: &Line) -> Result<(), Memory>
+    /// The packet at this place comes, also one that came before.
+    fn deliver_at(&mut self, alloc: Global, place: usize) -> Result<(), WorldFault>
+        requires running { self.old.stopped ≡ false }
+        requires within { place < length self.old.sent }
+        ensures running { OnOk result (self.new.stopped ≡ false) }
+        ensures comes { HasCome result place self.old self.new }
+    {
+        let packet = delivered_copy(alloc, &mut self.sent, place)?;
+        self.happen(alloc, packet.to.site, Event::Take { packet })
+    }
+
+    /// The packet of this number, from 1, comes, where so many were sent.
+    fn deliver(&mut self, alloc: Global, number: u64) -> Result<(), WorldFault>
+        requires { self.old.stopped ≡ false }
+        ensures running { OnOk result (self.new.stopped ≡ false) }
+        ensures delivered { OnOk result (GoesBy (IsDelivery number) self.old self.new) }
+        ensures stopped { IfErr result (λ fault. StoppedBy (IsDelivery number) self.old fault) }
+    {
+        if number == 0 || number > self.sent.len() as u64 {
+            return Ok(());
+        }
+        self.deliver_at(alloc, (number - 1) as usize)
+    }
+
+    /// The place of the least undelivered packet from one site to another.
+    fn next_due(&mut self, from: u8, to: u8) -> Option<usize>
+        ensures skipped { HasSkipped self.old self.new }
+        ensures found { IfSome result (λ place. (place < length self.new.sent) × (is_due_at from to self.new.sent place ≡ true)) }
+        ensures first { IfSome result (λ place. NoneDue from to self.new.sent self.new.cursor place) }
+        ensures none { IfNone result (NoneDue from to self.new.sent self.new.cursor (length self.new.sent)) }
+    {
+        self.cursor = first_undelivered(self.sent.as_slice(), self.cursor);
+        first_due(self.sent.as_slice(), self.cursor, from, to)
+    }
+
+    /// The packets from one site to another come, in order, and those that are sent meanwhile.
+    fn flush(&mut self, alloc: Global, from: u8, to: u8) -> Result<(), WorldFault>
+        requires { self.old.stopped ≡ false }
+        ensures running { OnOk result (self.new.stopped ≡ false) }
+        ensures flushed { OnOk result (GoesBy (Flushes from to) self.old self.new) }
+        ensures stopped { IfErr result (λ fault. StoppedBy (Delivers from to) self.old fault) }
+    {
+        while let Some(place) = self.next_due(from, to) {
+            self.deliver_at(alloc, place)?;
+        }
+        Ok(())
+    }
+
+    /// What the line stands for happens. A fault that is a limit comes at the first event that takes a count past its
+    /// number: events first, then sessions, then transactions. After a fault the world is only dropped.
+    pub fn perform(&mut self, alloc: Global, line: &Line) -> Result<(), WorldFault>
         requires running { self.old.stopped ≡ false }
         requires built { IsBuilt line.now }
         ensures running { OnOk result (self.new.stopped ≡ false) }
         ensures performed { OnOk result (IsPerformed line.now self.old self.new) }
+        ensures stopped { IfErr result (λ fault. IsStopped line.now self.old fault) }
     {
         match line {
-            Line::Open { site: _, coord } => self.happen(alloc, Event::Open { coord: *coord }),
+            Line::Open { site, coord } => self.happen(alloc, *site, Event::Open { coord: *coord }),
             Line::Bytes {
-                site: _,
+                site,
                 coord,
                 session,
                 bytes,
@@ -181,6 +335,7 @@ impl World {
                 let bytes = bytes.copy()?;
                 self.happen(
                     alloc,
+                    *site,
                     Event::Bytes {
                         coord: *coord,
                         session: *session,
@@ -188,7 +343,20 @@ impl World {
                     },
                 )
             }
-            Line::Flush { from, to: _ } => self.flush(alloc, *from),
+            Line::Close {
+                site,
+                coord,
+                session,
+            } => self.happen(
+                alloc,
+                *site,
+                Event::Close {
+                    coord: *coord,
+                    session: *session,
+                },
+            ),
+            Line::Deliver { number } => self.deliver(alloc, *number),
+            Line::Flush { from, to } => self.flush(alloc, *from, *to),
             _ => unreachable!(),
         }
     }
@@ -204,21 +372,4 @@ impl World {
             waiting: waiting_of(alloc, waits.as_slice())?,
         })
     }
-}
-
-/// The report of the run that the lines lead to, from the opening world on. Its execution is consistent.
-///
-/// A packet's number, or the number of packets of one flush, that doesn't fit in 64 bits counts as want of memory.
-pub fn report_of_lines(alloc: Global, lines: &[Line]) -> Result<Report, Memory>
-    requires { AllBuilt lines.now }
-    ensures report { IfOk result (λ report. IsReportOf lines.now report) }
-    ensures consistent { IfOk result (λ report. IsConsistent report.execution) }
-{
-    executions_are_direct();
-    every_run_is_por();
-    let mut world = World::new(alloc);
-    for line in lines {
-        world.perform(alloc, line)?;
-    }
-    world.report(alloc)
 }

@@ -9,13 +9,13 @@ use Rattle.us_site.proofs.coordinator.each.Goals as goal
 
 pub loop-i-preserved : goal.loop-i-preserved
 loop-i-preserved c =
-    let f = acts c.args.turn.now in
+    let f = acts c.args.catalog.now c.args.turn.now in
     let s = c.index-sessions-i.result in
     let is = c.index-sessions-i.is in
     let d = c.loop-i.desk in
     let desk : c.act.new.desk ≡ (f d s).desk = c.in_ok-act.ensures.desk ∙ ap (λ (x : Session). (f d x).desk) (sym is) in
     let session : c.act.new.session ≡ (f d s).session = c.in_ok-act.ensures.session ∙ ap (λ (x : Session). (f d x).session) (sym is) in
-    let same : c.act.new.desk.me.site ≡ d.me.site = ap (λ (x : Desk). x.me.site) desk ∙ ap (λ (a : Actor). a.site) (acts-me c.args.turn.now d s) in
+    let same : c.act.new.desk.me.site ≡ d.me.site = ap (λ (x : Desk). x.me.site) desk ∙ ap (λ (a : Actor). a.site) (acts-me c.args.catalog.now c.args.turn.now d s) in
     record {
       site = omega (arith, same, c.loop-i.invariant.site);
       desk = each-desk f d c.act.new.desk s c.act.new.session c.loop-i.sessions c.loop-i.i (omega arith) is desk ∙ c.loop-i.invariant.desk;

@@ -7,6 +7,6 @@ use Rattle.us_site.proofs.coordinator.each.Given as goal
 abbrev pub invariant-loop-i : goal.invariant-loop-i
 invariant-loop-i l = record {
   site : l.desk.me.site < 10;
-  desk : (each_session (acts l.turn) l.desk (drop l.i l.sessions)).desk ≡ (each_session (acts l.turn) l.fn.desk l.fn.sessions).desk;
-  sessions : take l.i l.sessions ++ (each_session (acts l.turn) l.desk (drop l.i l.sessions)).sessions ≡ (each_session (acts l.turn) l.fn.desk l.fn.sessions).sessions;
+  desk : (each_session (acts l.catalog l.turn) l.desk (drop l.i l.sessions)).desk ≡ (each_session (acts l.catalog l.turn) l.fn.desk l.fn.sessions).desk;
+  sessions : take l.i l.sessions ++ (each_session (acts l.catalog l.turn) l.desk (drop l.i l.sessions)).sessions ≡ (each_session (acts l.catalog l.turn) l.fn.desk l.fn.sessions).sessions;
 }

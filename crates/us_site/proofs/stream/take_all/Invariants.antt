@@ -4,4 +4,4 @@ use Rattle.us_site.proofs.stream.take_all.Given as goal
 
 -- the rest of the frames go on from what is now
 abbrev pub invariant-loop-frame : goal.invariant-loop-frame
-invariant-loop-frame l = take_frames l.desk l.session (drop l.frame-index l.frames) l.bad ≡ take_frames l.fn.desk l.fn.session l.frames l.bad
+invariant-loop-frame l = take_frames l.catalog l.desk l.session (drop l.frame-index l.frames) l.bad ≡ take_frames l.catalog l.fn.desk l.fn.session l.frames l.bad

@@ -1,25 +1,25 @@
-use Rattle.std.proofs.Common.{◌≡◌}
-use Rattle.std.specs.Prelude.{Some, None, position}
-use Rattle.us_world.specs.Kept.{goes}
-use Rattle.us_world.proofs.Flushing.{delivered_more, delivered_all}
+use Rattle.std.proofs.lemmas.Result.{err_from_is_err_and}
+use Rattle.us_world.proofs.Flushing.{delivered_more, delivered_stops, delivered_all}
 use Rattle.us_world.proofs.world.World.flush.Goals as goal
 
-pub returns-in_default-clause-flushed : goal.returns-in_default-clause-flushed
-returns-in_default-clause-flushed c =
-    let place = c.first.ensures.place in
-    let is = c.in_default.is in
-    let here = c.in_default.ensures.place in
-    let none : position (goes c.args.from 1) c.flush.self.due ≡ None = cc in
-    delivered_all c.args.from c.args.self.now c.flush.self c.flush.invariant.came none
-
-pub flush-preserved : goal.flush-preserved
-flush-preserved c =
-    let place = c.first.ensures.place in
-    let is = c.in-Some.is in
-    let here = c.in-Some.ensures.place in
-    let found : position (goes c.args.from 1) c.flush.self.due ≡ Some c.in-Some.place = cc in
-    let come = c.in_ok-deliver.ensures.comes in
+pub loop-place-preserved : goal.loop-place-preserved
+loop-place-preserved c =
+    let come = c.in_ok-deliver_at.ensures.comes in
     record {
-      running = c.in_ok-deliver.ensures.running;
-      came = delivered_more c.args.from c.args.self.now c.flush.self c.deliver.new.self c.in-Some.place come.0 c.flush.invariant.came found come.1 come.2;
+      running = c.in_ok-deliver_at.ensures.running;
+      came = delivered_more c.args.from c.args.to c.args.self.now c.loop-place.self c.next_due.new.self c.deliver_at.new.self c.in-Some.place come.sent c.loop-place.invariant.came
+          (record { skipped = c.next_due.ensures.skipped; due = c.in-Some.ensures.found.1; first = c.in-Some.ensures.first })
+          come.at come.after come.limit;
     }
+
+pub returns-in_err-deliver_at-clause-stopped : goal.returns-in_err-deliver_at-clause-stopped
+returns-in_err-deliver_at-clause-stopped c =
+    let come = c.in_err-deliver_at.ensures.comes in
+    let p = err_from_is_err_and c.from_residual.result c.from_residual.ensures.1 in
+    rw (p.1, p.2) (delivered_stops c.in_err-deliver_at.field-0.0 c.args.from c.args.to c.args.self.now c.loop-place.self c.next_due.new.self c.in-Some.place come.sent c.loop-place.invariant.came
+    (record { skipped = c.next_due.ensures.skipped; due = c.in-Some.ensures.found.1; first = c.in-Some.ensures.first })
+    come.at come.limit)
+
+pub returns-clause-flushed : goal.returns-clause-flushed
+returns-clause-flushed c =
+    delivered_all c.args.from c.args.to c.args.self.now c.loop-place.self c.next_due.new.self c.loop-place.invariant.came c.next_due.ensures.skipped c.in_default.ensures.none

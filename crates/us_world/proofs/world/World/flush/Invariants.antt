@@ -1,10 +1,15 @@
-use Rattle.std.proofs.Common.{◌≡◌, false}
-use Rattle.us_world.proofs.Flushing.{HasDelivered}
+use Rattle.std.proofs.Common.{◌≡◌, ◌-◌, ◌≤◌, false}
+use Rattle.us_world.specs.Limits.{Delivers}
+use Rattle.us_world.specs.Lines.{GoesBy}
 use Rattle.us_world.proofs.world.World.flush.Given as goal
 
 -- packets came, each time the least
-abbrev pub invariant-flush : goal.invariant-flush
-invariant-flush l = record {
+abbrev pub invariant-loop-place : goal.invariant-loop-place
+invariant-loop-place l = record {
   running : l.self.stopped ≡ false;
-  came : HasDelivered l.from l.fn.self l.self;
+  came : GoesBy (Delivers l.from l.to) l.fn.self l.self;
 }
+
+-- each counts an event
+abbrev pub decreases-loop-place : goal.decreases-loop-place
+decreases-loop-place l = 1000001 - l.self.events
