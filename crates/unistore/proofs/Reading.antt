@@ -1,12 +1,13 @@
 -- The lines of a schedule, one after another.
-use Rattle.std.proofs.Common.{◌≡◌, ℕ, ◌+◌, Bool, true, false, List, ◌∷◌, ◌++◌, Some, refl, sym, ap, ◌∙◌, append_assoc, ◌≤◌, length, length-append, arith}
+use Rattle.std.proofs.Common.{◌≡◌, ℕ, ◌+◌, Bool, true, false, List, ◌∷◌, [], ◌++◌, Option, Some, None, refl, sym, ap, ◌∙◌, append_assoc, ◌≤◌, length, length-append, arith}
 use Rattle.std.specs.List.{position_from}
-use Rattle.std.proofs.lemmas.List.Concat.{flat_map-cons}
-use Rattle.us_schedule.specs.declared.line.Line.{Line}
-use Rattle.us_schedule.specs.Lines.{line_read}
+use Rattle.std.proofs.lemmas.List.{append-nil}
+use Rattle.us_world.specs.declared.fault.Numbered.{Numbered}
 use Rattle.us_schedule.specs.Text.{text_lines, separator, Parted, IsParted}
 use Rattle.us_schedule.proofs.Cuts.{lines_few}
-use Rattle.unistore.specs.Schedule.{found_in, one_site, lines_in}
+use Rattle.unistore.specs.declared.status.Reason.{Reason}
+use Rattle.unistore.specs.declared.schedule.Refusal.{Refusal}
+use Rattle.unistore.specs.Schedule.{Said, Refuses, said, line_in, refusal_in, or_refused, refused_behind, unless_refused, lines_behind}
 
 -- the first line doesn't pass
 pub position_more : (p : List ℕ → Bool) (n : ℕ) (texts : List (List ℕ)) (text : List ℕ) (more : List (List ℕ)) → texts ≡ text ∷ more → p text ≡ false → position_from p n texts ≡ position_from p (n + 1) more
@@ -16,12 +17,32 @@ position_more p n texts text more e f = rw (e, f) refl
 pub position_here : (p : List ℕ → Bool) (n : ℕ) (texts : List (List ℕ)) (text : List ℕ) (more : List (List ℕ)) → texts ≡ text ∷ more → p text ≡ true → position_from p n texts ≡ Some n
 position_here p n texts text more e t = rw (e, t) refl
 
--- the lines of the first line, and then of the others
-pub lines_more : (all done : List Line) (texts : List (List ℕ)) (text : List ℕ) (more : List (List ℕ)) → all ≡ done ++ lines_in texts → texts ≡ text ∷ more → all ≡ (done ++ found_in (line_read one_site text)) ++ lines_in more
-lines_more all done texts text more so_far e =
-    so_far ∙ ap (λ (ls : List (List ℕ)). done ++ lines_in ls) e
-    ∙ ap (λ (ls : List Line). done ++ ls) (flat_map-cons (λ (t : List ℕ). found_in (line_read one_site t)) text more)
-    ∙ sym (append_assoc done (found_in (line_read one_site text)) (lines_in more))
+-- THE LINES BEHIND THE SEPARATOR
+-- the first line isn't refused: its lines, and then those of the others
+pub lines_more : (all done : List Numbered) (n : ℕ) (texts : List (List ℕ)) (text : List ℕ) (more : List (List ℕ)) → all ≡ done ++ lines_behind n texts → texts ≡ text ∷ more
+    → refusal_in n (said text) ≡ None → all ≡ (done ++ line_in n (said text)) ++ lines_behind (n + 1) more
+lines_more all done n texts text more so_far e none =
+    so_far ∙ ap (λ (ts : List (List ℕ)). done ++ lines_behind n ts) e
+    ∙ ap (λ (o : Option Refusal). done ++ unless_refused o (line_in n (said text) ++ lines_behind (n + 1) more)) none
+    ∙ sym (append_assoc done (line_in n (said text)) (lines_behind (n + 1) more))
+
+pub refused_more : (n : ℕ) (texts : List (List ℕ)) (text : List ℕ) (more : List (List ℕ)) → texts ≡ text ∷ more → refusal_in n (said text) ≡ None
+    → refused_behind n texts ≡ refused_behind (n + 1) more
+refused_more n texts text more e none =
+    ap (refused_behind n) e ∙ ap (λ (o : Option Refusal). or_refused o (refused_behind (n + 1) more)) none
+
+-- the first line is refused: there are no more lines
+pub lines_end : (all done : List Numbered) (n : ℕ) (texts : List (List ℕ)) (text : List ℕ) (more : List (List ℕ)) (reason : Reason) → all ≡ done ++ lines_behind n texts → texts ≡ text ∷ more
+    → said text ≡ Refuses reason → all ≡ done
+lines_end all done n texts text more reason so_far e refuses =
+    so_far ∙ ap (λ (ts : List (List ℕ)). done ++ lines_behind n ts) e
+    ∙ ap (λ (s : Said). done ++ unless_refused (refusal_in n s) (line_in n s ++ lines_behind (n + 1) more)) refuses
+    ∙ append-nil done
+
+pub refused_here : (n : ℕ) (texts : List (List ℕ)) (text : List ℕ) (more : List (List ℕ)) (reason : Reason) → texts ≡ text ∷ more → said text ≡ Refuses reason
+    → refused_behind n texts ≡ Some (record { line = n; reason = reason })
+refused_here n texts text more reason e refuses =
+    ap (refused_behind n) e ∙ ap (λ (s : Said). or_refused (refusal_in n s) (refused_behind (n + 1) more)) refuses
 
 -- the lines up to the separator and behind it are not more than the bytes
 pub parts_few : (text : List ℕ) (parted : Parted) → IsParted text parted → parted.line + length (text_lines parted.behind) ≤ length text

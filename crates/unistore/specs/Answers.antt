@@ -1,28 +1,37 @@
 -- What each status of a call says of what came and of what was written.
-use Rattle.std.specs.Prelude.{◌≡◌, ℕ, ◌^◌, ◌≤◌, nat_lt, if◌then◌else◌, ◌⊎◌, List, [], ◌∷◌, length, codes, Option, Some, None}
+use Rattle.std.specs.Prelude.{◌≡◌, ⊤, ℕ, ◌^◌, ◌≤◌, ◌<◌, Bool, true, false, ◌&&◌, if◌then◌else◌, ◌⊎◌, List, [], ◌∷◌, length, codes, Option, Some, None}
 use Rattle.std.specs.Str.{bytes_eq}
 use Rattle.us_edge.specs.Faults.{Rose}
 use Rattle.us_edge.specs.Streams.{Appends, AppendsPrefix, Gives, GivesMoreThan, IsAtEnd}
 use Rattle.us_report.specs.declared.report.Report.{Report}
-use Rattle.us_report.specs.Text.{report_text}
-use Rattle.us_schedule.specs.declared.line.Line.{Line}
+use Rattle.us_report.specs.Text.{report_text, short_text}
+use Rattle.us_world.specs.declared.fault.WorldFault.{WorldFault}
+use Rattle.us_world.specs.declared.fault.LinesFault.{LinesFault}
+use Rattle.us_world.specs.declared.fault.LinesFault.TheVariants as ends
 use Rattle.unistore.specs.declared.form.Form.{Form}
 use Rattle.unistore.specs.declared.form.Form.TheVariants.{Replay}
+use Rattle.unistore.specs.declared.schedule.Refusal.{Refusal}
+use Rattle.unistore.specs.declared.schedule.Script.{Script}
 use Rattle.unistore.specs.declared.schedule.Schedule.{Schedule}
-use Rattle.unistore.specs.declared.schedule.Schedule.TheVariants.{Refused, Accepted}
+use Rattle.unistore.specs.declared.schedule.Schedule.TheVariants.{Refused, Read}
 use Rattle.unistore.specs.declared.status.LimitKind.TheVariants.{Text}
 use Rattle.unistore.specs.declared.status.LimitKind.{LimitKind}
 use Rattle.unistore.specs.declared.status.Reason.{Reason}
 use Rattle.unistore.specs.declared.status.Status.{Status}
 use Rattle.unistore.specs.declared.status.Status.TheVariants.{Done, Words, Input, ReadFault, WriteFault, Memory, Limit}
-use Rattle.unistore.specs.Report.{IsReportOf}
+use Rattle.unistore.specs.Report.{IsReportOf, LeadOn, PassAt}
 use Rattle.unistore.specs.Schedule.{schedule_of}
-use Rattle.unistore.specs.Status.{refusal_text}
+use Rattle.unistore.specs.Status.{kind_of, refusal_text}
 
 -- the forms of the words
 abbrev pub form_of : List (List ℕ) → Option Form
-form_of (word ∷ []) = if bytes_eq word (codes "replay") then Some Replay else None
+form_of (word ∷ []) = if bytes_eq word (codes "replay") then Some (Replay false) else None
+form_of (word ∷ extent ∷ []) = if bytes_eq word (codes "replay") && bytes_eq extent (codes "short") then Some (Replay true) else None
 form_of _ = None
+
+-- whether only the last line of the report is asked for
+abbrev pub is_short : Form → Bool
+is_short (Replay short) = short
 
 -- a source: the bytes left, where it tells them, and its count of faults
 pub record SourceState : Type 0 where
@@ -61,74 +70,109 @@ CameTooMuch before after = GivesMoreThan (2 ^ 28) before.left after.left
 
 -- ---- what a status says of a schedule
 
--- the line of the refusal was written whole
-pub record RefusesInput (line : ℕ) (reason : Reason) (before after : SinkState) (said_line : ℕ) (said : Reason) : Type 0 where
+-- the text of a report, or its last line alone
+abbrev pub text_of : Bool → Report → List ℕ
+text_of short report = if short then short_text report else report_text report
+
+abbrev pub input : Refusal → Status
+input refusal = Input refusal.line refusal.reason
+
+-- the line of a refused input was written whole
+pub record RefusesInput (refusal : Refusal) (before after : SinkState) (line : ℕ) (reason : Reason) : Type 0 where
+  pub same_line : line ≡ refusal.line
+  pub same_reason : reason ≡ refusal.reason
+  pub written : Writes before after (refusal_text (input refusal))
+
+-- the input is refused at a line
+abbrev pub Refuses : Refusal → SinkState → SinkState → Status → Type 0
+Refuses refusal before after (Input line reason) = RefusesInput refusal before after line reason
+Refuses refusal before after WriteFault = FailsIn before after (refusal_text (input refusal))
+Refuses refusal before after Memory = WritesNothing before after
+Refuses refusal before after _ = ⊥
+
+-- the line of a passed limit was written whole
+pub record RefusesLimit (which : LimitKind) (line : ℕ) (before after : SinkState) (said : LimitKind) (said_line : ℕ) : Type 0 where
+  pub same_kind : said ≡ which
   pub same_line : said_line ≡ line
-  pub same_reason : said ≡ reason
-  pub written : Writes before after (refusal_text (Input line reason))
+  pub written : Writes before after (refusal_text (Limit which line))
 
--- the report of the lines was written whole
-pub record WritesReport (lines : List Line) (before after : SinkState) : Type 0 where
+-- a limit is passed at a line
+abbrev pub Passed : LimitKind → ℕ → SinkState → SinkState → Status → Type 0
+Passed which line before after (Limit said said_line) = RefusesLimit which line before after said said_line
+Passed which line before after WriteFault = FailsIn before after (refusal_text (Limit which line))
+Passed which line before after Memory = WritesNothing before after
+Passed which line before after _ = ⊥
+
+-- memory ran out, and nothing was written
+abbrev pub RunsOut : SinkState → SinkState → Status → Type 0
+RunsOut before after Memory = WritesNothing before after
+RunsOut before after _ = ⊥
+
+abbrev pub PassedKind : Option LimitKind → ℕ → SinkState → SinkState → Status → Type 0
+PassedKind (Some which) line before after status = Passed which line before after status
+PassedKind None line before after status = RunsOut before after status
+
+-- by the fault of lines
+abbrev pub PassedFault : LinesFault → SinkState → SinkState → Status → Type 0
+PassedFault (ends.Limit line which) before after status = PassedKind (kind_of which) line before after status
+PassedFault ends.Memory before after status = RunsOut before after status
+
+-- the report was written whole, or a front of it
+abbrev pub Tells : Bool → Report → SinkState → SinkState → Status → Type 0
+Tells short report before after Done = Writes before after (text_of short report)
+Tells short report before after WriteFault = FailsIn before after (text_of short report)
+Tells short report before after Memory = AppendsPrefix before.written after.written (text_of short report)
+Tells short report before after _ = ⊥
+
+-- the lines lead to a world, and its report is told
+pub record Reports (short : Bool) (script : Script) (before after : SinkState) (status : Status) : Type 0 where
   pub report : Report
-  pub is : IsReportOf lines report
-  pub written : Writes before after (report_text report)
+  pub is : IsReportOf script report
+  pub tells : Tells short report before after status
 
--- a write of the report of the lines failed
-pub record FailsInReport (lines : List Line) (before after : SinkState) : Type 0 where
-  pub report : Report
-  pub is : IsReportOf lines report
-  pub fails : FailsIn before after (report_text report)
+-- the lines lead to a world, and then the line behind them is refused
+pub record RefusesBehind (script : Script) (refusal : Refusal) (before after : SinkState) (status : Status) : Type 0 where
+  pub lead : LeadOn script
+  pub refuses : Refuses refusal before after status
 
--- a front of the report of the lines was written, and nothing more
-pub record StopsInReport (lines : List Line) (before after : SinkState) : Type 0 where
-  pub report : Report
-  pub is : IsReportOf lines report
-  pub part : AppendsPrefix before.written after.written (report_text report)
+-- the lines pass a limit
+pub record PassesLimit (script : Script) (before after : SinkState) (status : Status) : Type 0 where
+  pub line : ℕ
+  pub passed : WorldFault
+  pub pass : PassAt script line passed
+  pub which : LimitKind
+  pub kind : kind_of passed ≡ Some which
+  pub says : Passed which line before after status
 
--- the input is refused at the line
-abbrev pub Refuses : ℕ → Reason → SinkState → SinkState → Status → Type 0
-Refuses line reason before after (Input said_line said) = RefusesInput line reason before after said_line said
-Refuses line reason before after WriteFault = FailsIn before after (refusal_text (Input line reason))
-Refuses line reason before after Memory = WritesNothing before after
-Refuses line reason before after _ = ⊥
+-- what comes behind the lines
+abbrev pub ComesBehind : Bool → Script → Option Refusal → SinkState → SinkState → Status → Type 0
+ComesBehind short script None before after status = Reports short script before after status
+ComesBehind short script (Some refusal) before after status = RefusesBehind script refusal before after status
 
--- the lines are performed
-abbrev pub Reports : List Line → SinkState → SinkState → Status → Type 0
-Reports lines before after Done = WritesReport lines before after
-Reports lines before after WriteFault = FailsInReport lines before after
-Reports lines before after Memory = WritesNothing before after ⊎ StopsInReport lines before after
-Reports lines before after _ = ⊥
-
--- by what the text says
-abbrev pub Performs : Schedule → SinkState → SinkState → Status → Type 0
-Performs (Refused line reason) before after status = Refuses line reason before after status
-Performs (Accepted lines) before after status = Reports lines before after status
+-- by what the text says: a limit that the lines pass comes before the refusal behind them
+abbrev pub Performs : Bool → Schedule → SinkState → SinkState → Status → Type 0
+Performs short (Refused refusal) before after status = Refuses refusal before after status
+Performs short (Read script refused) before after status =
+    PassesLimit script before after status ⊎ (ComesBehind short script refused before after status ⊎ RunsOut before after status)
 
 -- ---- what a status says of a call
 
 -- a text came whole, and of what it says the status says this
-pub record Performed (source source_after : SourceState) (sink sink_after : SinkState) (status : Status) : Type 0 where
+pub record Performed (short : Bool) (source source_after : SourceState) (sink sink_after : SinkState) (status : Status) : Type 0 where
   pub text : List ℕ
   pub came : Came text source source_after
-  pub performs : Performs (schedule_of text) sink sink_after status
+  pub performs : Performs short (schedule_of text) sink sink_after status
 
--- too much came, and the line of that refusal was written whole
-pub record RefusesLength (source source_after : SourceState) (sink sink_after : SinkState) (which : LimitKind) (line : ℕ) : Type 0 where
-  pub same_kind : which ≡ Text
-  pub same_line : line ≡ 0
-  pub came : CameTooMuch source source_after
-  pub written : Writes sink sink_after (refusal_text (Limit Text 0))
-
--- too much came, and a write of the line of that refusal failed
-pub record FailsInLength (source source_after : SourceState) (sink sink_after : SinkState) : Type 0 where
-  pub came : CameTooMuch source source_after
-  pub fails : FailsIn sink sink_after (refusal_text (Limit Text 0))
-
--- what a status says of the line where too much came
+-- what a status says where too much came
 abbrev pub RefusesTooMuch : SinkState → SinkState → Status → Type 0
-RefusesTooMuch sink sink_after (Limit which line) = (which ≡ Text) × (line ≡ 0) × Writes sink sink_after (refusal_text (Limit Text 0))
+RefusesTooMuch sink sink_after (Limit which line) = RefusesLimit Text 0 sink sink_after which line
 RefusesTooMuch sink sink_after WriteFault = FailsIn sink sink_after (refusal_text (Limit Text 0))
 RefusesTooMuch sink sink_after _ = ⊥
+
+-- too much came
+pub record RefusesLength (source source_after : SourceState) (sink sink_after : SinkState) (status : Status) : Type 0 where
+  pub came : CameTooMuch source source_after
+  pub refuses : RefusesTooMuch sink sink_after status
 
 -- a read failed, and nothing was written
 pub record FailsToRead (source source_after : SourceState) (sink sink_after : SinkState) : Type 0 where
@@ -136,15 +180,12 @@ pub record FailsToRead (source source_after : SourceState) (sink sink_after : Si
   pub silent : WritesNothing sink sink_after
 
 -- the words ask for a replay
-abbrev pub Replays : SourceState → SourceState → SinkState → SinkState → Status → Type 0
-Replays source source_after sink sink_after Done = Performed source source_after sink sink_after Done
-Replays source source_after sink sink_after (Input line reason) = Performed source source_after sink sink_after (Input line reason)
-Replays source source_after sink sink_after ReadFault = FailsToRead source source_after sink sink_after
-Replays source source_after sink sink_after WriteFault =
-    Performed source source_after sink sink_after WriteFault ⊎ FailsInLength source source_after sink sink_after
-Replays source source_after sink sink_after Memory = WritesNothing sink sink_after ⊎ Performed source source_after sink sink_after Memory
-Replays source source_after sink sink_after (Limit which line) = RefusesLength source source_after sink sink_after which line
-Replays source source_after sink sink_after _ = ⊥
+abbrev pub Replays : Bool → SourceState → SourceState → SinkState → SinkState → Status → Type 0
+Replays short source source_after sink sink_after ReadFault = FailsToRead source source_after sink sink_after
+Replays short source source_after sink sink_after Memory =
+    WritesNothing sink sink_after ⊎ Performed short source source_after sink sink_after Memory
+Replays short source source_after sink sink_after status =
+    RefusesLength source source_after sink sink_after status ⊎ Performed short source source_after sink sink_after status
 
 -- the words are no form
 abbrev pub RefusesWords : SinkState → SinkState → Status → Type 0
@@ -155,7 +196,7 @@ RefusesWords sink sink_after _ = ⊥
 -- by the form of the words
 abbrev pub AnswersForm : Option Form → SourceState → SourceState → SinkState → SinkState → Status → Type 0
 AnswersForm None source source_after sink sink_after status = RefusesWords sink sink_after status
-AnswersForm (Some Replay) source source_after sink sink_after status = Replays source source_after sink sink_after status
+AnswersForm (Some (Replay short)) source source_after sink sink_after status = Replays short source source_after sink sink_after status
 
 -- WHAT A STATUS SAYS: the cause of each, and what was written
 abbrev pub Answers : List (List ℕ) → SourceState → SourceState → SinkState → SinkState → Status → Type 0
@@ -163,37 +204,90 @@ Answers words source source_after sink sink_after status = AnswersForm (form_of 
 
 -- ---- the same, status by status
 
--- the text was read whole, and the report of its lines was written whole
-pub record IsDone (left left_after written written_after : Option (List ℕ)) : Type 0 where
-  pub text : List ℕ
+-- the text was read whole
+pub record IsRead (left left_after : Option (List ℕ)) (text : List ℕ) : Type 0 where
   pub given : Gives left left_after text
   pub end : IsAtEnd left_after
-  pub lines : List Line
-  pub accepted : schedule_of text ≡ Accepted lines
+
+-- the text was read whole, none of its lines is refused, and the report of these was written whole
+pub record IsDone (left left_after written written_after : Option (List ℕ)) : Type 0 where
+  pub text : List ℕ
+  pub read : IsRead left left_after text
+  pub script : Script
+  pub accepted : schedule_of text ≡ Read script None
   pub report : Report
-  pub is : IsReportOf lines report
-  pub whole : Appends written written_after (report_text report)
+  pub is : IsReportOf script report
+  pub short : Bool
+  pub whole : Appends written written_after (text_of short report)
+
+-- where a text is refused: before any line is performed, or behind lines that lead to a world
+abbrev pub IsRefusedAt : Schedule → Refusal → Type 0
+IsRefusedAt (Refused refusal) at = refusal ≡ at
+IsRefusedAt (Read script refused) at = LeadOn script × (refused ≡ Some at)
 
 -- the text was read whole, it is refused there, and the line of that refusal was written whole
 pub record IsRefusedInput (left left_after written written_after : Option (List ℕ)) (line : ℕ) (reason : Reason) : Type 0 where
   pub text : List ℕ
-  pub given : Gives left left_after text
-  pub end : IsAtEnd left_after
-  pub refused : schedule_of text ≡ Refused line reason
+  pub read : IsRead left left_after text
+  pub refused : IsRefusedAt (schedule_of text) (record { line = line; reason = reason })
   pub whole : Appends written written_after (refusal_text (Input line reason))
 
 -- what a refused input says
 abbrev pub IfInput : Status → (ℕ → Reason → Type 0) → Type 0
 IfInput (Input line reason) P = P line reason
-IfInput _ P = Unit {0}
+IfInput _ P = ⊤
+
+-- the lines of a text pass that limit at the line of that number
+pub record IsPassedBy (schedule : Schedule) (which : LimitKind) (line : ℕ) : Type 0 where
+  pub script : Script
+  pub refused : Option Refusal
+  pub is : schedule ≡ Read script refused
+  pub passed : WorldFault
+  pub pass : PassAt script line passed
+  pub kind : kind_of passed ≡ Some which
+
+-- too much came, or the text was read whole and its lines pass the limit
+abbrev pub IsPast : Option (List ℕ) → Option (List ℕ) → LimitKind → ℕ → Type 0
+IsPast left left_after which line =
+    ((which ≡ Text) × (line ≡ 0) × GivesMoreThan (2 ^ 28) left left_after)
+    ⊎ ((text : List ℕ) × IsRead left left_after text × IsPassedBy (schedule_of text) which line)
+
+-- and the line of that was written whole
+pub record IsLimited (left left_after written written_after : Option (List ℕ)) (which : LimitKind) (line : ℕ) : Type 0 where
+  pub past : IsPast left left_after which line
+  pub whole : Appends written written_after (refusal_text (Limit which line))
+
+-- what a passed limit says
+abbrev pub IfLimit : Status → (LimitKind → ℕ → Type 0) → Type 0
+IfLimit (Limit which line) P = P which line
+IfLimit _ P = ⊤
 
 -- ---- completeness
 
-abbrev pub status_of_schedule : Schedule → Status
-status_of_schedule (Refused line reason) = Input line reason
-status_of_schedule (Accepted lines) = Done
+-- the status of a passed limit
+abbrev pub status_of_kind : Option LimitKind → ℕ → Status
+status_of_kind (Some which) line = Limit which line
+status_of_kind None line = Memory
+
+-- the status behind lines that lead to a world
+abbrev pub status_behind : Option Refusal → Status
+status_behind None = Done
+status_behind (Some refusal) = input refusal
+
+-- the lines pass a limit, and that is the status
+pub record IsPassedStatus (script : Script) (status : Status) : Type 0 where
+  pub line : ℕ
+  pub passed : WorldFault
+  pub pass : PassAt script line passed
+  pub is : status ≡ status_of_kind (kind_of passed) line
+
+-- the status of a schedule where no write fails and there is memory: its lines lead to one of both (`outcomes_are_one`)
+abbrev pub IsStatusOf : Schedule → Status → Type 0
+IsStatusOf (Refused refusal) status = status ≡ input refusal
+IsStatusOf (Read script refused) status = (LeadOn script × (status ≡ status_behind refused)) ⊎ IsPassedStatus script status
 
 -- the answer where no read and no write fails and there is memory
-abbrev pub sure_status : Option Form → List ℕ → Status
-sure_status None text = Words
-sure_status (Some Replay) text = if nat_lt (2 ^ 28) (length text) then Limit Text 0 else status_of_schedule (schedule_of text)
+abbrev pub IsSure : Option Form → List ℕ → Status → Type 0
+IsSure None text status = status ≡ Words
+IsSure (Some (Replay short)) text status =
+    ((2 ^ 28 < length text) × (status ≡ Limit Text 0)) ⊎ ((length text ≤ 2 ^ 28) × IsStatusOf (schedule_of text) status)

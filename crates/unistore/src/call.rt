@@ -1,8 +1,8 @@
 ghost use Rattle.std.specs.Prelude.{◌≡◌, ◌≢◌, ◌⊎◌, None, map, string_bytes};
-ghost use Rattle.unistore.specs.Answers.{form_of, Answers, IsDone, IsRefusedInput, IfInput};
+ghost use Rattle.unistore.specs.Answers.{form_of, Answers, IsDone, IsRefusedInput, IsLimited, IfInput, IfLimit};
 
 use crate::Status;
-use crate::form::{Form, form_of};
+use crate::form::form_of;
 use crate::replay::{refuse_words, replay};
 use std::alloc::Global;
 use us_edge::{Clock, Links, Sink, Source};
@@ -28,6 +28,7 @@ pub fn unistore<S: Source, K: Sink, L: Links, C: Clock>(
     ensures only_words { result ≡ Status.Words → form_of (map string_bytes words.now) ≡ None }
     ensures done { result ≡ Status.Done → IsDone (S.left source.old) (S.left source.new) (K.written sink.old) (K.written sink.new) }
     ensures input { IfInput result (λ line reason. IsRefusedInput (S.left source.old) (S.left source.new) (K.written sink.old) (K.written sink.new) line reason) }
+    ensures limit { IfLimit result (λ which line. IsLimited (S.left source.old) (S.left source.new) (K.written sink.old) (K.written sink.new) which line) }
     ensures linked { result ≢ Status.LinkFault }
 
     // What isn't used stays.
@@ -36,7 +37,7 @@ pub fn unistore<S: Source, K: Sink, L: Links, C: Clock>(
     ensures clock { clock.new ≡ clock.old }
 {
     match form_of(words) {
-        Some(Form::Replay) => replay(alloc, source, sink),
+        Some(form) => replay(alloc, form.is_short(), source, sink),
         None => refuse_words(sink),
     }
 }

@@ -14,7 +14,7 @@ mod surely;
 pub use call::unistore;
 use edge::{ListClock, SureLinks};
 use real::{StdinSource, StdoutSink, words_of};
-pub use schedule::{Schedule, read_schedule};
+pub use schedule::{Configured, Refusal, Schedule, Script, read_schedule};
 pub use status::{LimitKind, Reason, Status};
 use std::process::ExitCode;
 pub use surely::replay_surely;
@@ -35,5 +35,7 @@ fn main(rt: HostRuntime) -> ExitCode {
     ExitCode::from(status.number())
 }
 
+#[cfg(test)]
+mod rows;
 #[cfg(test)]
 mod tests;

@@ -1,16 +1,18 @@
-ghost use Rattle.std.specs.Prelude.{IfOk};
+ghost use Rattle.std.specs.Prelude.{IfOk, IfErr};
 ghost use Rattle.us_world.specs.Lines.{AllBuilt};
-ghost use Rattle.unistore.specs.Report.{IsReportOf};
+ghost use Rattle.unistore.specs.Report.{IsReportOf, IsLimitOf};
 
+use crate::schedule::Script;
 use std::alloc::Global;
-use us_kind::Memory;
 use us_report::Report;
-use us_schedule::Line;
+use us_world::LinesFault;
 
-/// The report of the world that the lines lead to.
-pub fn report_of_lines(alloc: Global, lines: &[Line]) -> Result<Report, Memory>
-    requires { AllBuilt lines.now }
-    ensures { IfOk result (λ report. IsReportOf lines.now report) }
+/// The report of the world that the lines lead to, or the limit that they pass.
+pub fn report_of_script(alloc: Global, script: Script) -> Result<Report, LinesFault>
+    requires { AllBuilt script.lines }
+    ensures report { IfOk result (λ report. IsReportOf script report) }
+    ensures limit { IfErr result (λ fault. IsLimitOf script fault) }
 {
-    us_world::report_of_lines(alloc, lines)
+    let Script { catalog, lines } = script;
+    us_world::report_of_lines(alloc, catalog, lines.as_slice())
 }

@@ -1,34 +1,64 @@
 ghost use Rattle.std.specs.Prelude.{◌≡◌, ◌+◌, ◌<◌, ◌^◌, IfOk, OnOk, length};
-ghost use Rattle.std.specs.List.{position_from};
-ghost use Rattle.us_schedule.specs.Lines.{line_read};
+ghost use Rattle.us_config.specs.Whole.{config_said};
 ghost use Rattle.us_schedule.specs.Text.{text_lines};
 ghost use Rattle.us_world.specs.Lines.{AllBuilt};
-ghost use Rattle.unistore.specs.Schedule.{Takes, one_site, is_foreign, is_performed, schedule_behind, schedule_of};
+ghost use Rattle.unistore.specs.Schedule.{Takes, configured_by, store_of, is_performed, reason_of, said, schedule_behind, schedule_of};
 ghost use Rattle.unistore.specs.Built.{IsBuiltSchedule};
 
 use crate::Reason;
 use std::alloc::Global;
 use us_base::Shape;
+use us_config::{Config, ReadFault};
 use us_kind::{Items, Memory};
 use us_schedule::{Line, LineFault, next_line, read_line, split_text};
+use us_value::Catalog;
+use us_world::Numbered;
 
 /// One site, which may not be lost, and one partition.
 const ONE_SITE: Shape = Shape { f: 0, parts: 1 };
 
-/// What a text says: the lines to be performed, or where it is refused.
+/// What a text asks for: the spaces of the store, and the lines to be performed, in order.
+#[derive(Drop)]
+pub struct Script {
+    pub catalog: Catalog,
+    pub lines: Items<Numbered>,
+}
+
+/// A refused line of the input, counted from 1.
+#[derive(Clone, Copy, Debug, PartialEq, Eq)]
+pub struct Refusal {
+    pub line: u64,
+    pub reason: Reason,
+}
+
+/// What a text says.
 #[derive(Drop)]
 pub enum Schedule {
-    /// Refused at a line, counted from 1.
-    Refused { line: u64, reason: Reason },
-    /// The lines to be performed, in order.
-    Accepted { lines: Items<Line> },
+    /// It is refused before any line is performed.
+    Refused {
+        refusal: Refusal,
+    },
+    /// What it asks for, and the refusal of the line behind its lines, if one is refused.
+    Read {
+        script: Script,
+        refused: Option<Refusal>,
+    },
+}
+
+/// What the text before the separator says.
+#[derive(Drop)]
+pub enum Configured {
+    /// A store of one site and one partition with these spaces.
+    Store { catalog: Catalog },
+    /// It is refused.
+    Refused { refusal: Refusal },
 }
 
 /// Why a line brings nothing.
 #[derive(Clone, Copy, Debug, PartialEq, Eq)]
 pub enum LineStop {
-    /// It is none that this store performs.
-    NotBuilt,
+    /// It is refused.
+    Refused { reason: Reason },
     /// Want of memory.
     Memory,
 }
@@ -53,86 +83,124 @@ pub fn read_schedule(alloc: Global, text: &[u8]) -> Result<Schedule, Memory>
         Ok(parts) => parts,
         Err(missing) => {
             return Ok(Schedule::Refused {
-                line: missing.line,
-                reason: Reason::NoSeparator,
+                refusal: Refusal {
+                    line: missing.line,
+                    reason: Reason::NoSeparator,
+                },
             });
         }
     };
-    if let Some(line) = foreign_line(parts.before) {
-        return Ok(Schedule::Refused {
-            line,
-            reason: Reason::NotBuilt,
-        });
-    }
-    read_behind(alloc, parts.behind, parts.line + 1)
-}
-
-/// The number of the first line that says something.
-fn foreign_line(text: &[u8]) -> Option<u64>
-    ensures { result ≡ position_from is_foreign 1 (text_lines text.now) }
-{
-    let mut number = 1;
-    let mut rest = text;
-    while let Some((line, behind)) = next_line(rest) {
-        if is_foreign(line) {
-            return Some(number);
+    match read_config(alloc, parts.before)? {
+        Configured::Store { catalog } => {
+            read_behind(alloc, catalog, parts.behind, parts.line + 1)
         }
-        number += 1;
-        rest = behind;
+        Configured::Refused { refusal } => Ok(Schedule::Refused { refusal }),
     }
-    None
 }
 
-/// Whether a line says something: it is neither blank nor a comment.
-fn is_foreign(line: &[u8]) -> bool
-    ensures { result ≡ is_foreign line.now }
+/// Reads the configuration.
+fn read_config(alloc: Global, text: &[u8]) -> Result<Configured, Memory>
+    ensures { IfOk result (λ said. said ≡ configured_by (config_said text.now)) }
 {
-    !line.is_empty() && line[0] != b'#'
+    match us_config::read(alloc, text) {
+        Ok(config) => Ok(store_of(config)),
+        Err(ReadFault::Refused { key, fault }) => Ok(Configured::Refused {
+            refusal: Refusal {
+                line: 0,
+                reason: Reason::Config { key, fault },
+            },
+        }),
+        Err(ReadFault::Memory) => Err(Memory),
+    }
 }
 
-/// Reads the lines behind the separator, of which the first has this number.
-fn read_behind(alloc: Global, text: &[u8], first: u64) -> Result<Schedule, Memory>
+/// The spaces of a store of one site and one partition; another one isn't built yet.
+fn store_of(config: Config) -> Configured
+    ensures { result ≡ store_of config }
+{
+    if config.shape.f == 0 && config.shape.parts == 1 {
+        return Configured::Store {
+            catalog: config.catalog,
+        };
+    }
+    Configured::Refused {
+        refusal: Refusal {
+            line: 0,
+            reason: Reason::NotBuilt,
+        },
+    }
+}
+
+/// Reads the lines behind the separator up to the first refused one. The first line has this number.
+fn read_behind(alloc: Global, catalog: Catalog, text: &[u8], first: u64) -> Result<Schedule, Memory>
     requires { first + length (text_lines text.now) < 2 ^ 64 }
-    ensures read { IfOk result (λ schedule. schedule ≡ schedule_behind first (text_lines text.now)) }
+    ensures read { IfOk result (λ schedule. schedule ≡ schedule_behind catalog first (text_lines text.now)) }
     ensures built { IfOk result IsBuiltSchedule }
 {
     let mut lines = Items::new(alloc);
     let mut number = first;
     let mut rest = text;
     while let Some((line, behind)) = next_line(rest) {
-        match take_line(alloc, line, &mut lines) {
+        match take_line(alloc, line, number, &mut lines) {
             Ok(()) => {}
-            Err(LineStop::NotBuilt) => {
-                return Ok(Schedule::Refused {
+            Err(LineStop::Refused { reason }) => {
+                let refused = Some(Refusal {
                     line: number,
-                    reason: Reason::NotBuilt,
+                    reason,
                 });
+                let script = Script { catalog, lines };
+                return Ok(Schedule::Read { script, refused });
             }
             Err(LineStop::Memory) => return Err(Memory),
         }
         number += 1;
         rest = behind;
     }
-    Ok(Schedule::Accepted { lines })
+    Ok(Schedule::Read {
+        script: Script { catalog, lines },
+        refused: None,
+    })
 }
 
-/// Adds what a line brings, which is nothing where it is blank or a comment.
+/// Adds what the line of this number brings, which is nothing where it is blank or a comment.
 #[tactic(auto, using(crate::proofs::Built::joined))]
-fn take_line(alloc: Global, text: &[u8], lines: &mut Items<Line>) -> Result<(), LineStop>
-    ensures taken { Takes result lines.old lines.new (line_read one_site text.now) }
-    ensures built { AllBuilt lines.old → OnOk result (AllBuilt lines.new) }
+fn take_line(
+    alloc: Global,
+    text: &[u8],
+    number: u64,
+    lines: &mut Items<Numbered>,
+) -> Result<(), LineStop>
+    ensures taken { Takes result number lines.old lines.new (said text.now) }
+    ensures built { AllBuilt lines.old → AllBuilt lines.new }
 {
     match read_line(alloc, text, ONE_SITE) {
         Ok(None) => Ok(()),
         Ok(Some(line)) => {
             if !is_performed(&line) {
-                return Err(LineStop::NotBuilt);
+                return Err(LineStop::Refused {
+                    reason: Reason::NotBuilt,
+                });
             }
-            lines.push(line)?;
+            lines.push(Numbered { number, line })?;
             Ok(())
         }
         Err(LineFault::Memory) => Err(LineStop::Memory),
-        Err(_) => Err(LineStop::NotBuilt),
+        Err(fault) => Err(LineStop::Refused {
+            reason: reason_of(fault),
+        }),
+    }
+}
+
+/// The reason why the grammar refuses a line.
+fn reason_of(fault: LineFault) -> Reason
+    ensures { result ≡ reason_of fault }
+{
+    match fault {
+        LineFault::BadWord => Reason::BadWord,
+        LineFault::BadNumber => Reason::BadNumber,
+        LineFault::BadHex => Reason::BadHex,
+        LineFault::OutOfRange => Reason::OutOfRange,
+        LineFault::Memory => Reason::NotBuilt,
     }
 }
 
@@ -140,7 +208,11 @@ fn is_performed(line: &Line) -> bool
     ensures { result ≡ is_performed line.now }
 {
     match line {
-        Line::Open { .. } | Line::Bytes { .. } | Line::Flush { .. } => true,
+        Line::Open { .. }
+        | Line::Bytes { .. }
+        | Line::Close { .. }
+        | Line::Deliver { .. }
+        | Line::Flush { .. } => true,
         _ => false,
     }
 }

@@ -1,22 +1,39 @@
 ghost use Rattle.std.specs.Prelude.{◌≡◌};
-ghost use Rattle.unistore.specs.Status.{reason_text, status_number};
+ghost use Rattle.unistore.specs.Status.{reason_text, limit_text, status_number};
+
+use us_config::{ConfigFault, Key};
 
 /// Why an input is refused.
 #[derive(Clone, Copy, Debug, PartialEq, Eq, Hash)]
 pub enum Reason {
     /// No line is `---`.
     NoSeparator,
-    /// The line is none that this store reads yet.
+    /// The configuration is at fault at this key.
+    Config { key: Key, fault: ConfigFault },
+    /// No line has this name with this number of words behind it.
+    BadWord,
+    /// A number is not decimal digits without a leading zero, or is above 2^64 - 1.
+    BadNumber,
+    /// The hex has an odd number of digits, or another character.
+    BadHex,
+    /// A value is out of its range.
+    OutOfRange,
+    /// The line is none that this store performs yet.
     NotBuilt,
 }
 
 impl Reason {
-    /// The reason as it is printed.
+    /// The reason's name, as it is printed of a line.
     pub fn word(self) -> &'static str
         ensures { result.now ≡ reason_text self }
     {
         match self {
             Reason::NoSeparator => "NoSeparator",
+            Reason::Config { .. } => "Config",
+            Reason::BadWord => "BadWord",
+            Reason::BadNumber => "BadNumber",
+            Reason::BadHex => "BadHex",
+            Reason::OutOfRange => "OutOfRange",
             Reason::NotBuilt => "NotBuilt",
         }
     }
@@ -27,6 +44,26 @@ impl Reason {
 pub enum LimitKind {
     /// 2^28 bytes of input.
     Text,
+    /// 1,000,000 events.
+    Events,
+    /// 512 opened sessions.
+    Sessions,
+    /// 20,000 begun transactions.
+    Transactions,
+}
+
+impl LimitKind {
+    /// The limit as it is printed.
+    pub fn word(self) -> &'static str
+        ensures { result.now ≡ limit_text self }
+    {
+        match self {
+            LimitKind::Text => "text",
+            LimitKind::Events => "events",
+            LimitKind::Sessions => "sessions",
+            LimitKind::Transactions => "transactions",
+        }
+    }
 }
 
 /// How a call ended.
@@ -36,7 +73,7 @@ pub enum Status {
     Done,
     /// The words are none of the forms.
     Words,
-    /// The input is refused at a line, counted from 1.
+    /// The input is refused at a line, counted from 1, or at 0 for its configuration.
     Input { line: u64, reason: Reason },
     /// A read failed, and the source counted it.
     ReadFault,

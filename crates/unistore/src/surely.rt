@@ -1,5 +1,5 @@
 ghost use Rattle.std.specs.Prelude.{◌≡◌, ◌⊎◌, map, string_bytes};
-ghost use Rattle.unistore.specs.Answers.{form_of, sure_status};
+ghost use Rattle.unistore.specs.Answers.{form_of, IsSure};
 
 use crate::{Status, unistore};
 use std::alloc::Global;
@@ -13,7 +13,7 @@ pub fn replay_surely<L: Links, C: Clock>(
     links: &mut L,
     clock: &mut C,
 ) -> Status
-    ensures { (result ≡ sure_status (form_of (map string_bytes words.now)) bytes.items) ⊎ (result ≡ Status.Memory) }
+    ensures { IsSure (form_of (map string_bytes words.now)) bytes.items result ⊎ (result ≡ Status.Memory) }
 {
     let mut source = SureSource::new(bytes);
     let mut sink = SureSink::new();

@@ -138,9 +138,9 @@ committed 0 strong 0 aborted 0 loose 1 links 0 refused 1 waiting 0\n\
 
 /// How a call ended, and what it wrote.
 #[derive(Drop)]
-struct Outcome {
-    status: Status,
-    written: Vec<u8>,
+pub(crate) struct Outcome {
+    pub(crate) status: Status,
+    pub(crate) written: Vec<u8>,
 }
 
 /// Splits words at single spaces.
@@ -192,7 +192,7 @@ fn ended(
 }
 
 /// Calls where nothing is told to fail.
-fn answered(alloc: Global, words: &str, input: &str) -> Result<Outcome, Fail> {
+pub(crate) fn answered(alloc: Global, words: &str, input: &str) -> Result<Outcome, Fail> {
     ended(alloc, words, input, 4096, 0, 0)
 }
 
@@ -225,28 +225,58 @@ fn refusals(rt: HostRuntime) -> Result<(), Fail> {
             "refused line 2 NotBuilt\n",
         ),
         (
-            "\nsites = 3\n---\n",
+            "---\ntick 1 1 5\nsleep 1\n",
             2,
             Reason::NotBuilt,
             "refused line 2 NotBuilt\n",
         ),
         (
+            "---\nbytes 1 1 1 0g\n",
+            2,
+            Reason::BadHex,
+            "refused line 2 BadHex\n",
+        ),
+        (
+            "---\ndeliver 01\n",
+            2,
+            Reason::BadNumber,
+            "refused line 2 BadNumber\n",
+        ),
+        (
+            "---\nsleep 1\n",
+            2,
+            Reason::BadWord,
+            "refused line 2 BadWord\n",
+        ),
+        (
+            "---\ntick 1 2 5\n",
+            2,
+            Reason::OutOfRange,
+            "refused line 2 OutOfRange\n",
+        ),
+        (
+            "---\ndeliver 0\n",
+            2,
+            Reason::OutOfRange,
+            "refused line 2 OutOfRange\n",
+        ),
+        (
             "#\n\n---\nopen  1 1\n",
             4,
-            Reason::NotBuilt,
-            "refused line 4 NotBuilt\n",
+            Reason::BadWord,
+            "refused line 4 BadWord\n",
         ),
         (
             "---\n\nopen 1 1\nopen 2 1",
             4,
-            Reason::NotBuilt,
-            "refused line 4 NotBuilt\n",
+            Reason::OutOfRange,
+            "refused line 4 OutOfRange\n",
         ),
         (
             "---\nopen 1 1\nopen 1 1\r",
             3,
-            Reason::NotBuilt,
-            "refused line 3 NotBuilt\n",
+            Reason::BadNumber,
+            "refused line 3 BadNumber\n",
         ),
     ] {
         let ended = answered(rt.alloc(), "replay", input)?;
@@ -258,7 +288,14 @@ fn refusals(rt: HostRuntime) -> Result<(), Fail> {
 
 #[test]
 fn words_that_are_no_form(rt: HostRuntime) -> Result<(), Fail> {
-    for words in ["", "replay long", "replay ", "Replay"] {
+    for words in [
+        "",
+        "replay long",
+        "replay short short",
+        "short replay",
+        "replay ",
+        "Replay",
+    ] {
         let ended = answered(rt.alloc(), words, TWO)?;
         assert_eq!(rt; ended.status, Status::Words, "{words}");
         assert_eq!(rt;
@@ -291,6 +328,130 @@ fn reports(rt: HostRuntime) -> Result<(), Fail> {
         let ended = answered(rt.alloc(), "replay", input)?;
         assert_eq!(rt; ended.status, Status::Done, "{input}");
         assert_eq!(rt; ended.written.as_slice(), want.as_bytes(), "{input}");
+    }
+    Ok(())
+}
+
+/// The schedule with one line behind the first flush.
+fn with_line(alloc: Global, line: &str) -> Result<String, Fail> {
+    let mut text = String::new(alloc);
+    let mut is_first = true;
+    for part in TWO.split_inclusive('\n') {
+        text.push_str(part)?;
+        if is_first && part == "flush 1 1\n" {
+            text.push_str(line)?;
+            is_first = false;
+        }
+    }
+    Ok(text)
+}
+
+#[test]
+fn packets_that_come_again(rt: HostRuntime) -> Result<(), Fail> {
+    for line in [
+        "deliver 1\n",
+        "deliver 2\n",
+        "deliver 1\ndeliver 1\n",
+        "deliver 2\ndeliver 1\n",
+        "deliver 3\n",
+        "deliver 18446744073709551615\n",
+    ] {
+        let input = with_line(rt.alloc(), line)?;
+        let ended = answered(rt.alloc(), "replay", input.as_str())?;
+        assert_eq!(rt; ended.status, Status::Done, "{line}");
+        assert_eq!(rt; ended.written.as_slice(), TWO_REPORT.as_bytes(), "{line}");
+    }
+    Ok(())
+}
+
+#[test]
+fn packets_one_by_one(rt: HostRuntime) -> Result<(), Fail> {
+    for (lines, want) in [
+        (
+            "deliver 1\n",
+            "l 1.1.1 1.1.1 open -\nw 1.1.1 2\n\
+            committed 0 strong 0 aborted 0 loose 1 links 0 refused 0 waiting 1\n",
+        ),
+        (
+            "deliver 2\ndeliver 1\n",
+            "l 1.1.1 1.1.1 open -\nw 1.1.1 2\n\
+            committed 0 strong 0 aborted 0 loose 1 links 0 refused 0 waiting 1\n",
+        ),
+        (
+            "deliver 1\ndeliver 2\n",
+            "l 1.1.1 1.1.1 open -\no 1:61 write:78 done\n\
+            committed 0 strong 0 aborted 0 loose 1 links 0 refused 0 waiting 0\n",
+        ),
+    ] {
+        let mut input = String::from_str(
+            rt.alloc(),
+            "---\nopen 1 1\nbytes 1 1 1 00000002010100000009010201016102000178\n",
+        )?;
+        input.push_str(lines)?;
+        let ended = answered(rt.alloc(), "replay", input.as_str())?;
+        assert_eq!(rt; ended.status, Status::Done, "{lines}");
+        assert_eq!(rt; ended.written.as_slice(), want.as_bytes(), "{lines}");
+    }
+    Ok(())
+}
+
+#[test]
+fn short_reports(rt: HostRuntime) -> Result<(), Fail> {
+    for (input, want) in [
+        ("---", NOTHING),
+        (
+            TWO,
+            "committed 2 strong 0 aborted 0 loose 0 links 0 refused 0 waiting 0\n",
+        ),
+    ] {
+        let ended = answered(rt.alloc(), "replay short", input)?;
+        assert_eq!(rt; ended.status, Status::Done, "{input}");
+        assert_eq!(rt; ended.written.as_slice(), want.as_bytes(), "{input}");
+    }
+    Ok(())
+}
+
+/// So many sessions are opened, and then come more lines.
+fn opens(alloc: Global, count: usize, more: &str) -> Result<String, Fail> {
+    let mut text = String::from_str(alloc, "---\n")?;
+    for _ in 0..count {
+        text.push_str("open 1 1\n")?;
+    }
+    text.push_str(more)?;
+    Ok(text)
+}
+
+#[test]
+fn limits_and_refusals(rt: HostRuntime) -> Result<(), Fail> {
+    let sessions = Status::Limit {
+        which: LimitKind::Sessions,
+        line: 514,
+    };
+    let refused = Status::Input {
+        line: 514,
+        reason: Reason::BadWord,
+    };
+    for (count, more, status, want) in [
+        (512, "", Status::Done, NOTHING),
+        (513, "", sessions, "refused limit sessions line 514\n"),
+        (
+            513,
+            "sleep\n",
+            sessions,
+            "refused limit sessions line 514\n",
+        ),
+        (
+            512,
+            "sleep\nopen 1 1\n",
+            refused,
+            "refused line 514 BadWord\n",
+        ),
+        (512, "\n# open 1 1\ndeliver 1\n", Status::Done, NOTHING),
+    ] {
+        let input = opens(rt.alloc(), count, more)?;
+        let ended = answered(rt.alloc(), "replay", input.as_str())?;
+        assert_eq!(rt; ended.status, status, "{want}");
+        assert_eq!(rt; ended.written.as_slice(), want.as_bytes());
     }
     Ok(())
 }

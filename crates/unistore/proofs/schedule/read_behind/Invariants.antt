@@ -1,15 +1,14 @@
 use Rattle.std.proofs.Common.{◌≡◌, ◌+◌, ◌++◌, length}
-use Rattle.std.specs.List.{position_from}
 use Rattle.us_schedule.specs.Text.{text_lines}
-use Rattle.unistore.specs.Schedule.{is_unknown, lines_in}
+use Rattle.unistore.specs.Schedule.{lines_behind, refused_behind}
 use Rattle.us_world.specs.Lines.{AllBuilt}
 use Rattle.unistore.proofs.schedule.read_behind.Given as goal
 
--- each line so far was known and taken
+-- each line so far was taken
 abbrev pub invariant-loop-line : goal.invariant-loop-line
 invariant-loop-line l = record {
-  none : position_from is_unknown l.first (text_lines l.text) ≡ position_from is_unknown l.number (text_lines l.rest);
-  lines : lines_in (text_lines l.text) ≡ l.lines ++ lines_in (text_lines l.rest);
+  refused : refused_behind l.first (text_lines l.text) ≡ refused_behind l.number (text_lines l.rest);
+  lines : lines_behind l.first (text_lines l.text) ≡ l.lines ++ lines_behind l.number (text_lines l.rest);
   built : AllBuilt l.lines;
   number : l.number + length (text_lines l.rest) ≡ l.first + length (text_lines l.text);
 }
