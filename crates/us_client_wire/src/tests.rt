@@ -320,8 +320,9 @@ fn other_causes_are_malformed(rt: HostRuntime) -> Result<(), Fail> {
 #[test]
 fn what_is_encoded_is_spelled(rt: HostRuntime) -> Result<(), Fail> {
     let alloc = rt.alloc();
-    let attached = encode_request(alloc, &Request::Attach { token: token() }, ALONE)?;
-    assert_eq!(rt; attached.as_slice(), ATTACH);
+    let committed = encode_request(alloc, &Request::CommitCausal, ALONE)?;
+    let bare: &[u8] = &[0, 0, 0, 2, 1, 3];
+    assert_eq!(rt; committed.as_slice(), bare);
     let tid = Tid {
         site: 3,
         coord: 2,
@@ -340,13 +341,9 @@ fn what_is_encoded_is_spelled(rt: HostRuntime) -> Result<(), Fail> {
         decode_reply(alloc, frame, ALONE),
         Err(DecodeFault::Malformed)
     );
-    let answer = Answer::Values {
-        values: values(alloc, &[b"a", b"b"])?,
-    };
-    let told = encode_reply(alloc, &Reply::Answered { at: 1, answer }, ALONE)?;
-    let frame: &[u8] = &[
-        0, 0, 0, 21, 1, 130, 0, 0, 0, 0, 0, 0, 0, 1, 4, 0, 0, 0, 2, 0, 1, 0x61, 0, 1, 0x62,
-    ];
+    let refused = Reply::Refused { at: 1, number: 11 };
+    let told = encode_reply(alloc, &refused, ALONE)?;
+    let frame: &[u8] = &[0, 0, 0, 11, 1, 137, 0, 0, 0, 0, 0, 0, 0, 1, 11];
     assert_eq!(rt; told.as_slice(), frame);
     Ok(())
 }
