@@ -5,3 +5,4 @@ pub mod Replies
 pub mod Reading
 pub mod Laws
 pub mod Lengths
+pub mod Faults

@@ -10,11 +10,16 @@ pub enum DecodeFault {
 }
 
 impl fmt::Display for DecodeFault {
+    ghost use Rattle.std.specs.Prelude.{Some};
+    ghost use Rattle.us_client_wire.specs.Faults.{fault_text};
+
+    ghost output = { λ fault. Some (fault_text fault) };
+
     fn fmt<W: fmt::Write>(&self, f: &mut fmt::Formatter<W>) -> fmt::Result {
-        match self {
-            DecodeFault::Malformed => f.write_str("malformed frame"),
-            DecodeFault::Memory => f.write_str("out of memory"),
-        }
+        f.write_str(match self {
+            DecodeFault::Malformed => "malformed frame",
+            DecodeFault::Memory => "out of memory",
+        })
     }
 }
 

@@ -1,4 +1,5 @@
 pub mod Faults
+pub mod FaultTexts
 pub mod Streams
 pub mod Numbers
 pub mod Scripts

@@ -42,12 +42,21 @@ pub enum ReadAllFault {
 }
 
 impl fmt::Display for Failed {
+    ghost use Rattle.std.specs.Prelude.{Some, codes};
+
+    ghost output = { λ _. Some (codes "failed") };
+
     fn fmt<W: fmt::Write>(&self, f: &mut fmt::Formatter<W>) -> fmt::Result {
         f.write_str("failed")
     }
 }
 
 impl fmt::Display for StartFault {
+    ghost use Rattle.std.specs.Prelude.{Some};
+    ghost use Rattle.us_edge.specs.FaultTexts.{start_text};
+
+    ghost output = { λ fault. Some (start_text fault) };
+
     fn fmt<W: fmt::Write>(&self, f: &mut fmt::Formatter<W>) -> fmt::Result {
         f.write_str(match self {
             StartFault::Failed => "the links did not start",
@@ -57,6 +66,11 @@ impl fmt::Display for StartFault {
 }
 
 impl fmt::Display for PollFault {
+    ghost use Rattle.std.specs.Prelude.{Some};
+    ghost use Rattle.us_edge.specs.FaultTexts.{poll_text};
+
+    ghost output = { λ fault. Some (poll_text fault) };
+
     fn fmt<W: fmt::Write>(&self, f: &mut fmt::Formatter<W>) -> fmt::Result {
         f.write_str(match self {
             PollFault::Failed => "the links failed",
@@ -66,6 +80,11 @@ impl fmt::Display for PollFault {
 }
 
 impl fmt::Display for ReadAllFault {
+    ghost use Rattle.std.specs.Prelude.{Some};
+    ghost use Rattle.us_edge.specs.FaultTexts.{read_all_text};
+
+    ghost output = { λ fault. Some (read_all_text fault) };
+
     fn fmt<W: fmt::Write>(&self, f: &mut fmt::Formatter<W>) -> fmt::Result {
         f.write_str(match self {
             ReadAllFault::Failed => "a read failed",
