@@ -2,10 +2,11 @@ ghost use Rattle.std.specs.Prelude.{◌≡◌, IfOk};
 ghost use Rattle.us_value.specs.Items.{item_eq};
 
 use crate::Effect;
+use std::hash::{Hash, Hasher};
 use us_kind::{Bytes, Memory};
 
 /// An item: its space, 1 to 255, and its id of 1 to 64 bytes there.
-#[derive(Debug, PartialEq, Eq, Drop)]
+#[derive(Debug, Drop)]
 pub struct Item {
     pub space: u8,
     pub id: Bytes,
@@ -26,6 +27,40 @@ impl Item {
             space: self.space,
             id: self.id.copy()?,
         })
+    }
+}
+
+impl PartialEq for Item {
+    ghost use Rattle.us_value.specs.Items.{item_eq};
+    ghost use Rattle.us_value.specs.SameItem.{item_partial_equivalence};
+
+    ghost eq = { item_eq };
+
+    ghost laws = { item_partial_equivalence };
+
+    fn eq(&self, other: &Item) -> bool {
+        self.same(other)
+    }
+}
+
+impl Eq for Item {
+    ghost use Rattle.us_value.specs.SameItem.{item_equivalence};
+
+    ghost laws = { item_equivalence };
+}
+
+impl Hash for Item {
+    ghost use Rattle.std.specs.Prelude.{◌++◌};
+    ghost use Rattle.std.specs.Hash as fed;
+    ghost use Rattle.us_value.specs.SameItem.{item_hash-Alike};
+
+    ghost hash_input = { λ item. fed.u8 item.space ++ fed.slice fed.u8 item.id };
+
+    ghost respects_eq = { item_hash-Alike };
+
+    fn hash<H: Hasher>(&self, state: &mut H) {
+        self.space.hash(state);
+        self.id.as_slice().hash(state);
     }
 }
 
