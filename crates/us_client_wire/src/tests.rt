@@ -304,6 +304,24 @@ fn replies_are_read(rt: HostRuntime) -> Result<(), Fail> {
 }
 
 // The causes of a refusal are 1 to 11.
+/// What a node of one site offers to its first connection after BEGIN.
+#[test]
+fn the_reply_of_a_node_is_read(rt: HostRuntime) -> Result<(), Fail> {
+    let alloc = rt.alloc();
+    let mut offered = Vec::from_slice(alloc, &[0, 0, 0, 0x14, 1, 0x81, 0, 0, 0, 0, 0, 0, 0, 1])?;
+    offered.extend_from_slice(&[1, 1, 0, 0, 0, 0, 0, 0, 0, 1])?;
+    let tid = Tid {
+        site: 1,
+        coord: 1,
+        seq: 1,
+    };
+    assert_eq!(rt;
+        decode_reply(alloc, &offered, ALONE),
+        Ok(Reply::Started { at: 1, tid })
+    );
+    Ok(())
+}
+
 #[test]
 fn other_causes_are_malformed(rt: HostRuntime) -> Result<(), Fail> {
     let alloc = rt.alloc();
