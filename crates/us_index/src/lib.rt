@@ -3,9 +3,11 @@
 
 mod listed;
 mod places;
+mod under;
 
 pub use listed::Listed;
 pub use places::Places;
+pub use under::{places_under, put_under};
 
 #[cfg(test)]
 mod tests;

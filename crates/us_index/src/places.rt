@@ -1,7 +1,7 @@
-ghost use Rattle.std.specs.Prelude.{◌≡◌, ◌++◌, ◌∷◌, [], OnOk, OnErr, unwrap_or, if◌then◌else◌};
-ghost use Rattle.std.specs.HashMap.{get};
+ghost use Rattle.std.specs.Prelude.{◌≡◌, ◌++◌, ◌∷◌, [], OnOk, OnErr};
 ghost use Rattle.us_index.specs.Places.{places_of};
 
+use crate::under::{places_under, put_under};
 use std::alloc::Global;
 use std::collections::HashMap;
 use std::hash::Hash;
@@ -16,15 +16,14 @@ pub struct Places<K: Eq + Hash> {
 }
 
 impl<K: Eq + Hash> Model for Places<K> {
-    ghost use Rattle.std.specs.Prelude.{◌≡◌, List, [], unwrap_or};
-    ghost use Rattle.std.specs.HashMap.{get};
-    ghost use Rattle.us_index.specs.Places.{places_of};
+    ghost use Rattle.std.specs.Prelude.{◌≡◌, List};
+    ghost use Rattle.us_index.specs.Places.{places_of, places_under};
 
     ghost Value = { List K };
 
     ghost view = { λ a. a.keys.items };
 
-    ghost invariant = { λ a. (q : K) → unwrap_or (get K.eq a.places q) [] ≡ places_of (λ k. K.eq k q) 0 a.keys.items };
+    ghost invariant = { λ a. (q : K) → places_under K.eq a.places q ≡ places_of (λ k. K.eq k q) 0 a.keys.items };
 }
 
 impl<K: Eq + Hash + Copy> Places<K> {
@@ -49,10 +48,7 @@ impl<K: Eq + Hash + Copy> Places<K> {
     pub fn of(&self, key: &K) -> &[usize]
         ensures { result.now ≡ places_of (λ k. K.eq k key.now) 0 self.now }
     {
-        match self.places.get(key) {
-            Some(places) => places.as_slice(),
-            None => &[],
-        }
+        places_under(&self.places, key)
     }
 
     /// Adds a key at the end.
@@ -63,7 +59,7 @@ impl<K: Eq + Hash + Copy> Places<K> {
         let alloc = *self.keys.allocator();
         let place = self.keys.as_slice().len();
         self.keys.push(key)?;
-        match add_place(alloc, &mut self.places, key, place) {
+        match put_under(alloc, &mut self.places, key, place) {
             Ok(()) => Ok(()),
             Err(Memory) => {
                 self.keys.pop();
@@ -71,17 +67,4 @@ impl<K: Eq + Hash + Copy> Places<K> {
             }
         }
     }
-}
-
-/// One more place of a key.
-fn add_place<K: Eq + Hash + Copy>(
-    alloc: Global,
-    places: &mut HashMap<K, Items<usize>>,
-    key: K,
-    place: usize,
-) -> Result<(), Memory>
-    ensures ok { OnOk result ((q : K) → unwrap_or (get K.eq places.new q) [] ≡ (if K.eq key q then unwrap_or (get K.eq places.old q) [] ++ place ∷ [] else unwrap_or (get K.eq places.old q) [])) }
-    ensures err { OnErr result ((q : K) → unwrap_or (get K.eq places.new q) [] ≡ unwrap_or (get K.eq places.old q) []) }
-{
-    places.entry(key)?.or_insert(Items::new(alloc)).push(place)
 }

@@ -1,5 +1,5 @@
 -- How long writes are.
-use Rattle.std.proofs.Common.{◌≡◌, ℕ, ◌+◌, List, [], ◌∷◌, ◌++◌, refl, ap, ◌∙◌, arith}
+use Rattle.std.proofs.Common.{◌≡◌, ◌+◌, List, [], ◌∷◌, ◌++◌, refl, ap, arith}
 use Rattle.us_value.specs.declared.item.Write.{Write}
 use Rattle.us_value.specs.Lengths.{write_length}
 use Rattle.us_model.specs.Sessions.{writes_length}

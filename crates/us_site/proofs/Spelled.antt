@@ -1,15 +1,14 @@
 -- The replies that a site gives have a spelling.
-use Rattle.std.proofs.Common.{◌≡◌, ℕ, ◌+◌, ◌<◌, ◌≤◌, ◌^◌, List, [], ◌∷◌, ◌++◌, length, length-append, refl, arith}
+use Rattle.std.proofs.Common.{ℕ, ◌<◌, ◌≤◌, ◌^◌, [], ◌∷◌, length-append, arith}
 use Rattle.std.specs.Int.{to_be_bytes, w64}
 use Rattle.us_base.specs.declared.shape.Shape.{Shape}
 use Rattle.us_kind.specs.declared.identity.Tid.{Tid}
 use Rattle.us_value.specs.declared.operation.Answer.{Answer}
 use Rattle.us_value.specs.Lengths.{answer_length}
-use Rattle.us_wire.specs.Whole.{IsShort}
 use Rattle.us_migrate.specs.Spellings.{tid_spelling, IsOneOf, TidFits}
 use Rattle.us_client_wire.specs.declared.frame.Reply.TheVariants.{Started, Answered, Committed, Dropped, Refused}
 use Rattle.us_client_wire.specs.Fields.{answer_spelling, AnswerFits}
-use Rattle.us_client_wire.specs.Replies.{reply_fields, ReplyFits}
+use Rattle.us_client_wire.specs.Replies.{ReplyFits}
 use Rattle.us_client_wire.proofs.AnswerLengths.{answers-are-as-long}
 
 pub started_fits : (shape : Shape) (at : ℕ) (tid : Tid) → at < 2 ^ 64 → TidFits shape tid → ReplyFits shape (Started at tid)

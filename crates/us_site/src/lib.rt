@@ -4,6 +4,7 @@
 mod answer;
 mod codec;
 mod coordinator;
+mod log;
 mod partition;
 mod reading;
 mod running;

@@ -3,6 +3,7 @@ ghost use Rattle.std.specs.Prelude.{◌≡◌, ◌<◌, ◌^◌, ◌++◌, ◌�
 ghost use Rattle.us_base.specs.Vector.{zero};
 ghost use Rattle.us_model.specs.Partitions.{known, own_known, least_ts, get, next_timestamp, timestamp_for, may_prepare, prepared, is_of, commit, may_answer, versions, still_parked};
 
+use crate::log::Log;
 use crate::reading::push_versions;
 use std::alloc::Global;
 use std::marker::Model;
@@ -23,7 +24,7 @@ const STRIDE: u64 = 64;
 #[derive(Drop)]
 pub struct Part {
     clock: u64,
-    log: Vec<LogTx>,
+    log: Log,
     prepared: Vec<PreparedTx>,
     done: Listed<Tid>,
     got: Vector,
@@ -35,7 +36,7 @@ impl Model for Part {
 
     ghost Value = { Partition };
 
-    ghost view = { λ a. record { clock = a.clock; log = a.log.items; prepared = a.prepared.items; done = a.done; got = a.got; parked = a.parked.items } };
+    ghost view = { λ a. record { clock = a.clock; log = a.log; prepared = a.prepared.items; done = a.done; got = a.got; parked = a.parked.items } };
 }
 
 impl Part {
@@ -44,7 +45,7 @@ impl Part {
     {
         Part {
             clock: 0,
-            log: Vec::new(alloc),
+            log: Log::new(alloc),
             prepared: Vec::new(alloc),
             done: Listed::new(alloc),
             got: Vector::zero(),
@@ -147,7 +148,7 @@ impl Part {
             me,
             catalog,
             &known,
-            self.log.as_slice(),
+            &self.log,
             self.parked.as_slice(),
             packets,
         )?;

@@ -1,9 +1,11 @@
 //! The versions of items that a partition's log tells.
-ghost use Rattle.std.specs.Prelude.{◌≡◌, ◌++◌, IfOk, OnOk};
+ghost use Rattle.std.specs.Prelude.{◌≡◌, ◌++◌, IfOk, OnOk, slice_get};
+ghost use Rattle.us_site.specs.Logs.{after_one, after_places};
 ghost use Rattle.us_value.specs.Values.{answered, prepared, updated};
 ghost use Rattle.us_model.specs.Partitions.{after_writes, after_log, after_own, state_for, is_too_long, form_for, version_for, versions};
 
 use crate::codec::MOST_ANSWER;
+use crate::log::Log;
 use std::alloc::Global;
 use us_base::Vector;
 use us_kind::{Items, Memory, Stamp, Tag, Tid};
@@ -25,7 +27,7 @@ pub fn push_versions(
     me: &Actor,
     catalog: &Catalog,
     known: &Vector,
-    log: &[LogTx],
+    log: &Log,
     questions: &[Get],
     packets: &mut Items<Packet>,
 ) -> Result<(), Memory>
@@ -44,7 +46,7 @@ fn version_of(
     alloc: Global,
     me: &Actor,
     catalog: &Catalog,
-    log: &[LogTx],
+    log: &Log,
     question: &Get,
 ) -> Result<Packet, Memory>
     ensures { IfOk result (λ packet. packet ≡ version_for me.now catalog.now log.now question.now) }
@@ -143,12 +145,7 @@ fn apply_effect(
 
 /// The state of the question's item at its snapshot, and the transaction's own effects on top.
 #[tactic(auto, unfolding(us_model::specs::Partitions::state_for))]
-fn state_of(
-    alloc: Global,
-    catalog: &Catalog,
-    log: &[LogTx],
-    question: &Get,
-) -> Result<State, Memory>
+fn state_of(alloc: Global, catalog: &Catalog, log: &Log, question: &Get) -> Result<State, Memory>
     ensures { IfOk result (λ state. state ≡ state_for catalog.now log.now question.now) }
 {
     let kind = catalog
@@ -161,28 +158,62 @@ fn state_of(
 }
 
 /// The log's writes on the item, by transactions with vectors at most the snapshot.
+#[tactic(auto, using(crate::proofs::LogPlaces::state_by_places))]
 fn apply_log(
     alloc: Global,
     state: &mut State,
     item: &Item,
     snapshot: &Vector,
-    log: &[LogTx],
+    log: &Log,
 ) -> Result<(), Memory>
     ensures { OnOk result (state.new ≡ after_log item.now snapshot.now state.old log.now) }
 {
-    for transaction in log {
-        if transaction.vector.at_most(snapshot) {
-            apply_writes(
-                alloc,
-                state,
-                item,
-                transaction.vector.sum(),
-                transaction.tid,
-                transaction.writes.as_slice(),
-            )?;
-        }
+    let places = log.places_of(item);
+    apply_places(alloc, state, item, snapshot, log.as_slice(), places)
+}
+
+/// The writes on the item of the transactions at these places.
+fn apply_places(
+    alloc: Global,
+    state: &mut State,
+    item: &Item,
+    snapshot: &Vector,
+    transactions: &[LogTx],
+    places: &[usize],
+) -> Result<(), Memory>
+    ensures { OnOk result (state.new ≡ after_places item.now snapshot.now transactions.now state.old places.now) }
+{
+    for place in places {
+        apply_at(alloc, state, item, snapshot, transactions, *place)?;
     }
     Ok(())
+}
+
+/// The writes on the item of the transaction at this place, where its vector is at most the snapshot.
+fn apply_at(
+    alloc: Global,
+    state: &mut State,
+    item: &Item,
+    snapshot: &Vector,
+    transactions: &[LogTx],
+    place: usize,
+) -> Result<(), Memory>
+    ensures { OnOk result (state.new ≡ after_one item.now snapshot.now state.old (slice_get transactions.now place)) }
+{
+    let Some(transaction) = transactions.get(place) else {
+        return Ok(());
+    };
+    if !transaction.vector.at_most(snapshot) {
+        return Ok(());
+    }
+    apply_writes(
+        alloc,
+        state,
+        item,
+        transaction.vector.sum(),
+        transaction.tid,
+        transaction.writes.as_slice(),
+    )
 }
 
 /// A transaction's writes on the item.

@@ -1,4 +1,3 @@
-use Rattle.std.proofs.Common.{◌≡◌, sym, arith}
 use Rattle.us_site.proofs.Spelled.{answered_fits}
 use Rattle.us_site.proofs.codec.has_spelling.Goals as goal
 

@@ -1,0 +1,78 @@
+use std::alloc::Global;
+use std::test::Fail;
+use us_kind::Memory;
+use us_model::{Event, Outputs};
+use us_site::Site;
+use us_value::{Catalog, Kind};
+
+/// How many sessions of a site may be open.
+const SESSIONS: u64 = 4096;
+
+/// A site whose space 1 holds registers.
+fn site_of_registers(alloc: Global) -> Result<Site, Memory> {
+    let catalog = Catalog::new(alloc, &[(1, Kind::Register)])?;
+    Ok(Site::new(alloc, 1, catalog))
+}
+
+/// A step of a site. One that has stopped takes none.
+fn step(alloc: Global, site: &mut Site, event: Event) -> Result<Outputs, Memory> {
+    if site.stopped() {
+        return Err(Memory);
+    }
+    site.step(alloc, event)
+}
+
+/// A client opens a session at coordinator 1.
+fn open(alloc: Global, site: &mut Site) -> Result<Outputs, Memory> {
+    step(alloc, site, Event::Open { coord: 1 })
+}
+
+/// How many of so many opens are told as an opened session, with nothing for the client.
+fn opened(alloc: Global, site: &mut Site, opens: u64) -> Result<u64, Memory> {
+    let mut opened = 0;
+    for _ in 0..opens {
+        let out = open(alloc, site)?;
+        if out.notes.len() == 1 && out.client.is_empty() {
+            opened += 1;
+        }
+    }
+    Ok(opened)
+}
+
+#[test]
+fn a_site_of_many_sessions(rt: HostRuntime) -> Result<(), Fail> {
+    let alloc = rt.alloc();
+    let mut site = site_of_registers(alloc)?;
+    assert_eq!(rt; opened(alloc, &mut site, SESSIONS)?, SESSIONS);
+    let refused = open(alloc, &mut site)?;
+    assert!(rt; refused.notes.is_empty());
+    assert!(rt; refused.packets.is_empty());
+    assert_eq!(rt; refused.client.len(), 1);
+    let reply = &refused.client.as_slice()[0];
+    assert_eq!(rt;
+        reply.bytes.as_slice(),
+        [0, 0, 0, 0x0b, 1, 0x89, 0, 0, 0, 0, 0, 0, 0, 0, 0x0b].as_slice()
+    );
+    assert!(rt; reply.ends);
+    assert_eq!(rt; (reply.coord, reply.session), (1, 0));
+    Ok(())
+}
+
+// A session that is closed leaves its place to another.
+#[test]
+fn a_place_that_is_free_again(rt: HostRuntime) -> Result<(), Fail> {
+    let alloc = rt.alloc();
+    let mut site = site_of_registers(alloc)?;
+    assert_eq!(rt; opened(alloc, &mut site, SESSIONS)?, SESSIONS);
+    step(
+        alloc,
+        &mut site,
+        Event::Close {
+            coord: 1,
+            session: 7,
+        },
+    )?;
+    assert_eq!(rt; opened(alloc, &mut site, 1)?, 1);
+    assert_eq!(rt; opened(alloc, &mut site, 1)?, 0);
+    Ok(())
+}
