@@ -2,7 +2,7 @@
 use Rattle.std.proofs.Common.{◌≡◌, ◌∙◌, ℕ, suc, zero, ◌+◌, ◌-◌, ◌≤◌, List, [], ◌∷◌, ◌++◌, length, Bool, true, false, cond, refl, ap, arith, length-append}
 use Rattle.std.proofs.lemmas.Bool.Decides.{nat_tests}
 use Rattle.std.specs.Prelude.{Some, ◌==◌, slice_get}
-use Rattle.us_index.specs.Places.{places_of, is_number, ends_in, listed}
+use Rattle.us_index.specs.Places.{places_of, is_number, ends_in, put_last}
 
 pub slice_get_seam : {X : Type 0} (xs : List X) (y : X) (ys : List X) → slice_get (xs ++ y ∷ ys) (length xs) ≡ Some y
 slice_get_seam [] y ys = refl
@@ -36,10 +36,10 @@ not_at p (k ∷ ks) i n h j = not_in_front n i (places_of p (i + 1) ks) (omega a
 pub comes_next : {K : Type 0} (p : K → Bool) (ks : List K) (n : ℕ) → length ks ≤ n → ends_in n (places_of p 0 ks) ≡ false
 comes_next p ks n h = not_at p ks 0 n (omega arith) (length (places_of p 0 ks) - 1)
 
-pub listed-there : (n : ℕ) (ns : List ℕ) → ends_in n ns ≡ true → listed n ns ≡ ns
-unfolding listed
-listed-there n ns h = ap (λ b. cond b ns (ns ++ n ∷ [])) h
+pub put_last-there : (n : ℕ) (ns : List ℕ) → ends_in n ns ≡ true → put_last n ns ≡ ns
+unfolding put_last
+put_last-there n ns h = ap (λ b. cond b ns (ns ++ n ∷ [])) h
 
-pub listed-next : (n : ℕ) (ns : List ℕ) → ends_in n ns ≡ false → listed n ns ≡ ns ++ n ∷ []
-unfolding listed
-listed-next n ns h = ap (λ b. cond b ns (ns ++ n ∷ [])) h
+pub put_last-next : (n : ℕ) (ns : List ℕ) → ends_in n ns ≡ false → put_last n ns ≡ ns ++ n ∷ []
+unfolding put_last
+put_last-next n ns h = ap (λ b. cond b ns (ns ++ n ∷ [])) h

@@ -1,7 +1,7 @@
 -- One more key at the end.
 use Rattle.std.proofs.Common.{◌≡◌, ◌∙◌, ℕ, suc, ◌+◌, List, [], ◌∷◌, ◌++◌, length, Bool, true, false, cond, ap, sym, arith, append-nil}
-use Rattle.us_index.specs.Places.{places_of, ends_in, listed}
-use Rattle.us_index.proofs.LastPlace.{comes_next, listed-next}
+use Rattle.us_index.specs.Places.{places_of, ends_in, put_last}
+use Rattle.us_index.proofs.LastPlace.{comes_next, put_last-next}
 
 one_place : (b : Bool) (i j : ℕ) → i ≡ j → cond b (i ∷ []) [] ≡ cond b (j ∷ []) []
 one_place b i j e = ap (λ n. cond b (n ∷ []) []) e
@@ -20,9 +20,9 @@ places_of_push p i (x ∷ ks) k =
 
 -- the places that are kept, where a key comes with place n
 pub placed : {K : Type 0} (p : K → Bool) (ks ms : List K) (k : K) (n : ℕ) (was now : List ℕ) → n ≡ length ks → ms ≡ ks ++ k ∷ []
-    → was ≡ places_of p 0 ks → now ≡ cond (p k) (listed n was) was → now ≡ places_of p 0 ms
+    → was ≡ places_of p 0 ks → now ≡ cond (p k) (put_last n was) was → now ≡ places_of p 0 ms
 placed p ks ms k n was now at more before after =
-    after ∙ ap (λ ns. cond (p k) ns was) (listed-next n was next) ∙ on (p k) ∙ sym (ap (places_of p 0) more ∙ places_of_push p 0 ks k)
+    after ∙ ap (λ ns. cond (p k) ns was) (put_last-next n was next) ∙ on (p k) ∙ sym (ap (places_of p 0) more ∙ places_of_push p 0 ks k)
   where
     next : ends_in n was ≡ false
     next = ap (ends_in n) before ∙ comes_next p ks n (omega arith)

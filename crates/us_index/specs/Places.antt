@@ -21,5 +21,5 @@ abbrev pub ends_in : ℕ → List ℕ → Bool
 ends_in n ns = is_number n (slice_get ns (length ns - 1))
 
 -- n at the end, unless it is there
-unfoldable pub listed : ℕ → List ℕ → List ℕ
-listed n ns = if ends_in n ns then ns else ns ++ n ∷ []
+unfoldable pub put_last : ℕ → List ℕ → List ℕ
+put_last n ns = if ends_in n ns then ns else ns ++ n ∷ []

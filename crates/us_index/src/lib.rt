@@ -1,4 +1,4 @@
-//! Lists of keys that are looked up without a walk.
+//! Lists of keys that are looked up without a walk, and places that are kept under keys.
 #![tactic(auto)]
 
 mod listed;

@@ -1,7 +1,6 @@
-//! A map from keys to places, of which each key has as many as there are.
-ghost use Rattle.std.specs.Prelude.{◌≡◌, OnOk, OnErr, unwrap_or, if◌then◌else◌};
-ghost use Rattle.std.specs.HashMap.{get};
-ghost use Rattle.us_index.specs.Places.{ends_in, listed, places_under};
+//! A map from keys to lists of places.
+ghost use Rattle.std.specs.Prelude.{◌≡◌, OnOk, OnErr, if◌then◌else◌};
+ghost use Rattle.us_index.specs.Places.{ends_in, put_last, places_under};
 
 use std::alloc::Global;
 use std::collections::HashMap;
@@ -25,16 +24,16 @@ pub fn put_under<K: Eq + Hash + Drop>(
     key: K,
     place: usize,
 ) -> Result<(), Memory>
-    ensures ok { OnOk result ((q : K) → places_under K.eq places.new q ≡ (if K.eq key q then listed place (places_under K.eq places.old q) else places_under K.eq places.old q)) }
+    ensures ok { OnOk result ((q : K) → places_under K.eq places.new q ≡ (if K.eq key q then put_last place (places_under K.eq places.old q) else places_under K.eq places.old q)) }
     ensures err { OnErr result ((q : K) → places_under K.eq places.new q ≡ places_under K.eq places.old q) }
 {
-    list(places.entry(key)?.or_insert(Items::new(alloc)), place)
+    put_last(places.entry(key)?.or_insert(Items::new(alloc)), place)
 }
 
 /// The place at the end, unless it is there.
-#[tactic(auto, unfolding(crate::specs::Places::listed))]
-fn list(places: &mut Items<usize>, place: usize) -> Result<(), Memory>
-    ensures ok { OnOk result (places.new ≡ listed place places.old) }
+#[tactic(auto, unfolding(crate::specs::Places::put_last))]
+fn put_last(places: &mut Items<usize>, place: usize) -> Result<(), Memory>
+    ensures ok { OnOk result (places.new ≡ put_last place places.old) }
     ensures err { OnErr result (places.new ≡ places.old) }
 {
     if ends_in(places.as_slice(), place) {

@@ -2,8 +2,8 @@
 use Rattle.std.proofs.Common.{◌≡◌, ◌∙◌, ℕ, ◌+◌, List, [], ◌∷◌, ◌++◌, length, Bool, true, false, cond, refl, ap, sym, arith, append_assoc, length-append}
 use Rattle.std.specs.List.{list_any}
 use Rattle.std.specs.Prelude.{◌||◌, Some, slice_get}
-use Rattle.us_index.specs.Places.{places_of, ends_in, listed}
-use Rattle.us_index.proofs.LastPlace.{slice_get_seam, ends_in-put, comes_next, listed-there, listed-next}
+use Rattle.us_index.specs.Places.{places_of, ends_in, put_last}
+use Rattle.us_index.proofs.LastPlace.{slice_get_seam, ends_in-put, comes_next, put_last-there, put_last-next}
 use Rattle.us_index.proofs.OneMore.{placed as placed_one}
 use Rattle.us_kind.specs.declared.identity.Tid.{Tid}
 use Rattle.us_base.specs.Vector.{at_most, sum_of}
@@ -20,19 +20,19 @@ placed_there : (item : Item) (n : ℕ) (ws : List Write) (ns : List ℕ) → end
 placed_there item n [] ns h = refl
 placed_there item n (w ∷ ws) ns h = ap (placed item n ws) (same (item_eq w.item item)) ∙ placed_there item n ws ns h
   where
-    same : (b : Bool) → cond b (listed n ns) ns ≡ ns
-    same true = listed-there n ns h
+    same : (b : Bool) → cond b (put_last n ns) ns ≡ ns
+    same true = put_last-there n ns h
     same false = refl
 
 -- the place of a transaction comes once, where one of its writes is on the item
 placed_next : (item : Item) (n : ℕ) (ws : List Write) (ns : List ℕ) → ends_in n ns ≡ false
-    → placed item n ws ns ≡ cond (list_any (λ (w : Write). item_eq w.item item) ws) (listed n ns) ns
+    → placed item n ws ns ≡ cond (list_any (λ (w : Write). item_eq w.item item) ws) (put_last n ns) ns
 placed_next item n [] ns h = refl
 placed_next item n (w ∷ ws) ns h = on (item_eq w.item item) (placed_next item n ws ns h)
   where
-    on : (b : Bool) → placed item n ws ns ≡ cond (list_any (λ (v : Write). item_eq v.item item) ws) (listed n ns) ns
-        → placed item n ws (cond b (listed n ns) ns) ≡ cond (b || list_any (λ (v : Write). item_eq v.item item) ws) (listed n ns) ns
-    on true e = placed_there item n ws (listed n ns) (ap (ends_in n) (listed-next n ns h) ∙ ends_in-put n ns)
+    on : (b : Bool) → placed item n ws ns ≡ cond (list_any (λ (v : Write). item_eq v.item item) ws) (put_last n ns) ns
+        → placed item n ws (cond b (put_last n ns) ns) ≡ cond (b || list_any (λ (v : Write). item_eq v.item item) ws) (put_last n ns) ns
+    on true e = placed_there item n ws (put_last n ns) (ap (ends_in n) (put_last-next n ns h) ∙ ends_in-put n ns)
     on false e = e
 
 -- the places of an item, where a transaction comes at the end

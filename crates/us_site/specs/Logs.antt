@@ -1,7 +1,7 @@
 -- Where a log's transactions write an item.
 use Rattle.std.specs.Prelude.{ℕ, List, [], ◌∷◌, Bool, Option, Some, None, slice_get, if◌then◌else◌}
 use Rattle.std.specs.List.{list_any}
-use Rattle.us_index.specs.Places.{listed}
+use Rattle.us_index.specs.Places.{put_last}
 use Rattle.us_base.specs.Vector.{at_most, sum_of}
 use Rattle.us_value.specs.declared.item.Item.{Item}
 use Rattle.us_value.specs.declared.item.Write.{Write}
@@ -17,7 +17,7 @@ writes_on item t = list_any (λ (w : Write). item_eq w.item item) t.writes
 -- the places of an item, where a transaction with these writes comes with place n
 abbrev pub placed : Item → ℕ → List Write → List ℕ → List ℕ
 placed item n [] ns = ns
-placed item n (w ∷ ws) ns = placed item n ws (if item_eq w.item item then listed n ns else ns)
+placed item n (w ∷ ws) ns = placed item n ws (if item_eq w.item item then put_last n ns else ns)
 
 -- the state after a transaction's writes on the item, where its vector is at most the snapshot
 abbrev pub after_one : Item → List ℕ → State → Option LogTx → State

@@ -1,5 +1,5 @@
 //! The log of a partition, in which the transactions that write an item are found without a walk.
-ghost use Rattle.std.specs.Prelude.{◌≡◌, ◌++◌, ◌∷◌, [], IfOk, OnOk};
+ghost use Rattle.std.specs.Prelude.{◌≡◌, ◌++◌, ◌∷◌, [], IfOk, OnOk, OnErr};
 ghost use Rattle.us_value.specs.Items.{item_eq};
 ghost use Rattle.us_index.specs.Places.{places_of, places_under};
 ghost use Rattle.us_site.specs.Logs.{writes_on, placed};
@@ -61,7 +61,8 @@ impl Log {
 
     /// Adds a transaction at the end. After want of memory the log is empty.
     pub fn push(&mut self, transaction: LogTx) -> Result<(), Memory>
-        ensures { OnOk result (self.new ≡ self.old ++ transaction ∷ []) }
+        ensures ok { OnOk result (self.new ≡ self.old ++ transaction ∷ []) }
+        ensures err { OnErr result (self.new ≡ []) }
     {
         let alloc = *self.transactions.allocator();
         let log = mem::replace(self, Log::new(alloc));

@@ -1,0 +1,52 @@
+"""Writes a schedule of one session for `unistore replay`: N transactions of four operations over 40 items.
+
+    python3 schedule.py N > schedule
+
+Each transaction adds to a counter, adds to a set, writes a register and reads a register, is committed causally, and is
+followed by a flush.
+"""
+
+import sys
+
+# the kind, number and items of each space
+SPACES = (("counter", 1, 10), ("set", 2, 10), ("register", 3, 20))
+
+
+def frame(*fields: bytes) -> str:
+    """A request of version 1: its length, its version, its tag and its fields."""
+    body = b"\x01" + b"".join(fields)
+    return (len(body).to_bytes(4, "big") + body).hex()
+
+
+def value(text: bytes) -> bytes:
+    return len(text).to_bytes(2, "big") + text
+
+
+def perform(space: int, number: int, operation: bytes) -> str:
+    items = SPACES[space - 1][2]
+    item = bytes([97 + number % items])
+    return frame(b"\x02", bytes([space, len(item)]), item, operation)
+
+
+def transaction(number: int) -> str:
+    return "".join(
+        (
+            frame(b"\x01"),
+            perform(1, number, b"\x04" + (number % 7).to_bytes(8, "big")),
+            perform(2, number * 3, b"\x07" + value(bytes([65 + number % 20]))),
+            perform(3, number, b"\x02" + value(str(number).encode())),
+            perform(3, number * 7 + 1, b"\x01"),
+            frame(b"\x03"),
+        )
+    )
+
+
+def main() -> None:
+    for kind, number, _ in SPACES:
+        print(f'[[space]]\nnumber = {number}\nkind = "{kind}"')
+    print("---\nopen 1 1")
+    for number in range(int(sys.argv[1])):
+        print(f"bytes 1 1 1 {transaction(number)}\nflush 1 1")
+
+
+main()
