@@ -9,13 +9,14 @@ use crate::report::report_of_script;
 use crate::schedule::{Refusal, Schedule, Script, read_schedule};
 use crate::{LimitKind, Reason, Status};
 use std::alloc::{AllocError, Global};
+use us_base::Limits;
 use us_edge::{Failed, ReadAllFault, Sink, Source, read_all, write_all};
 use us_kind::Memory;
 use us_report::{Report, ReportFault, write_report};
 use us_world::{LinesFault, WorldFault, perform_lines};
 
 /// The most bytes of input.
-const MOST_TEXT: usize = 1 << 28;
+const MOST_TEXT: usize = Limits::TEXT;
 
 /// Reads the whole input, and then writes the report of its lines, or with `short` the last line of that, or the line
 /// of its refusal.

@@ -12,7 +12,7 @@ impl Limits {
     pub const VALUE: usize = 1024;
 
     /// The bytes of an item's id, of which there is at least one.
-    pub const ITEM_ID: usize = 64;
+    pub const ITEM_ID: u8 = 64;
 
     /// The operations of a transaction.
     pub const OPERATIONS: usize = 64;
@@ -24,10 +24,10 @@ impl Limits {
     pub const ANSWER: usize = 65_000;
 
     /// The bytes of a client's frame, its length among them.
-    pub const CLIENT_FRAME: usize = 65_536;
+    pub const CLIENT_FRAME: u32 = 65_536;
 
     /// The bytes of a site's frame, its length among them.
-    pub const PEER_FRAME: usize = 1_048_576;
+    pub const PEER_FRAME: u32 = 1_048_576;
 
     /// The open sessions of a site.
     pub const OPEN_SESSIONS: usize = 4096;

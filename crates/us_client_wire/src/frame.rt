@@ -1,3 +1,4 @@
+use us_base::Limits;
 use us_kind::Tid;
 use us_migrate::Token;
 use us_value::{Answer, Item, Op};
@@ -40,7 +41,7 @@ pub(crate) const VERSION: u8 = 1;
 pub(crate) const CAUSES: u8 = 11;
 
 /// The greatest length of an item's id, in bytes.
-pub(crate) const ID_LIMIT: u8 = 64;
+pub(crate) const ID_LIMIT: u8 = Limits::ITEM_ID;
 
 /// The tags of requests and replies.
 pub(crate) mod tag {

@@ -303,7 +303,6 @@ fn replies_are_read(rt: HostRuntime) -> Result<(), Fail> {
     Ok(())
 }
 
-// The causes of a refusal are 1 to 11.
 /// What a node of one site offers to its first connection after BEGIN.
 #[test]
 fn the_reply_of_a_node_is_read(rt: HostRuntime) -> Result<(), Fail> {
@@ -322,6 +321,7 @@ fn the_reply_of_a_node_is_read(rt: HostRuntime) -> Result<(), Fail> {
     Ok(())
 }
 
+// The causes of a refusal are 1 to 11.
 #[test]
 fn other_causes_are_malformed(rt: HostRuntime) -> Result<(), Fail> {
     let alloc = rt.alloc();

@@ -5,11 +5,12 @@ ghost use Rattle.us_client_wire.specs.Fields.{AnswerFits, ValuesFit};
 ghost use Rattle.us_client_wire.specs.Lengths.{all_short};
 
 use crate::values::ascend;
+use us_base::Limits;
 use us_kind::Bytes;
 use us_value::Answer;
 
 /// How many bytes a value has at most.
-const VALUE_LIMIT: usize = 1024;
+const VALUE_LIMIT: usize = Limits::VALUE;
 
 /// How many values a count of four bytes tells at most.
 const VALUES_LIMIT: usize = u32::MAX as usize;

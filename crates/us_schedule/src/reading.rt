@@ -7,17 +7,17 @@ use crate::numbers::{actor_in, at_most, coord_in, counted, number_of, site_in};
 use crate::{Line, LineFault};
 use hex::FromHexError;
 use std::alloc::{AllocError, Global};
-use us_base::Shape;
+use us_base::{Limits, Shape};
 use us_kind::Bytes;
 
 /// The most bytes that a `bytes` line brings.
 const MOST_BYTES: usize = 65_536;
 
 /// The last clock that a line hands out.
-const LAST_CLOCK: u64 = 1 << 59;
+const LAST_CLOCK: u64 = Limits::CLOCK;
 
 /// The most rounds of a `settle` line.
-const MOST_ROUNDS: u64 = 100_000;
+const MOST_ROUNDS: u64 = Limits::ROUNDS;
 
 /// The most spaces between the words of a line.
 const MOST_SPACES: usize = 4;

@@ -9,16 +9,16 @@ ghost use Rattle.us_client_wire.specs.Requests.{request_of};
 ghost use Rattle.us_client_wire.specs.Replies.{reply_spelling, ReplyFits};
 
 use std::alloc::Global;
-use us_base::Shape;
+use us_base::{Limits, Shape};
 use us_client_wire::{DecodeFault, Reply, Request, answer_fits, decode_request, encode_reply};
 use us_kind::{Bytes, Memory, Tid};
 use us_value::{Answer, answer_len};
 
 /// How many bytes an answer is spelled in at most.
-pub const MOST_ANSWER: usize = 65000;
+pub const MOST_ANSWER: usize = Limits::ANSWER;
 
 /// The greatest number on the wire.
-const GREATEST: u64 = 1 << 62;
+const GREATEST: u64 = Limits::NUMBER;
 
 /// The greatest number of a refusal.
 const CAUSES: u8 = 11;

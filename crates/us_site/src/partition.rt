@@ -7,7 +7,7 @@ use crate::log::Log;
 use crate::reading::push_versions;
 use std::alloc::Global;
 use std::marker::Model;
-use us_base::Vector;
+use us_base::{Limits, Vector};
 use us_index::Listed;
 use us_kind::{Items, Memory, Tid};
 use us_model::{Get, LogTx, PreparedTx};
@@ -15,7 +15,7 @@ use us_peer_wire::{Actor, Packet};
 use us_value::{Catalog, Write};
 
 /// The greatest number of a timestamp.
-const GREATEST: u64 = 1 << 62;
+const GREATEST: u64 = Limits::NUMBER;
 
 /// Timestamps of a partition leave its number as the remainder by this.
 const STRIDE: u64 = 64;

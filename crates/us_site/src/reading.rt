@@ -7,7 +7,7 @@ ghost use Rattle.us_model.specs.Partitions.{after_writes, after_log, after_own, 
 use crate::codec::MOST_ANSWER;
 use crate::log::Log;
 use std::alloc::Global;
-use us_base::Vector;
+use us_base::{Limits, Vector};
 use us_kind::{Items, Memory, Stamp, Tag, Tid};
 use us_model::{Get, LogTx};
 use us_peer_wire::{Actor, Form, Message, Packet, Version};
@@ -19,7 +19,7 @@ use us_value::{
 const OWN_SUM: u128 = u128::MAX;
 
 /// How many bytes the writes of a transaction are spelled in at most.
-pub const MOST_WRITES: usize = 65536;
+pub const MOST_WRITES: usize = Limits::WRITES;
 
 /// The versions for the questions whose snapshot is known.
 pub fn push_versions(

@@ -7,7 +7,7 @@ ghost use Rattle.us_model.specs.Sessions.{with_packets, with_note, reply_out, te
 
 use crate::codec::spelled;
 use std::alloc::Global;
-use us_base::Vector;
+use us_base::{Limits, Vector};
 use us_client_wire::{Reply, Request};
 use us_exec::SessionName;
 use us_kind::{Items, Memory, Tid};
@@ -17,10 +17,10 @@ use us_value::{Catalog, Effect, Item, Op, Write, op_fits};
 use us_wire::FrameReader;
 
 /// How many operations a transaction has at most.
-const OPERATIONS: usize = 64;
+const OPERATIONS: usize = Limits::OPERATIONS;
 
 /// The greatest whole frame of a client, in bytes.
-const CLIENT_FRAME: u32 = 65536;
+const CLIENT_FRAME: u32 = Limits::CLIENT_FRAME;
 
 /// Why a request is refused, as docs/PROTOCOL.md lists it.
 pub const MALFORMED: u8 = 1;

@@ -8,7 +8,7 @@ use crate::shard::Shard;
 use crate::waits::Unanswered;
 use std::alloc::Global;
 use std::marker::Model;
-use us_base::Shape;
+use us_base::{Limits, Shape};
 use us_kind::{Items, Memory};
 use us_model::{Event, Outputs, Settings};
 use us_peer_wire::Actor;
@@ -18,7 +18,7 @@ use us_value::Catalog;
 const LONE: Shape = Shape { f: 0, parts: 1 };
 
 /// How many sessions of a site may be open.
-const SESSIONS: usize = 4096;
+const SESSIONS: usize = Limits::OPEN_SESSIONS;
 
 /// A site: one state machine, whose only way on is `step`.
 #[derive(Drop)]

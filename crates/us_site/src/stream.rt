@@ -7,6 +7,7 @@ use crate::codec::read_request;
 use crate::running::run;
 use crate::session::{MALFORMED, TOO_MANY_REQUESTS, after, new_stream, refuse, waits_for_nothing};
 use std::alloc::Global;
+use us_base::Limits;
 use us_client_wire::{DecodeFault, Request};
 use us_kind::{Bytes, Items, Memory};
 use us_model::{Ask, Desk, Note, Session, Waiting};
@@ -14,7 +15,7 @@ use us_value::Catalog;
 use us_wire::{FrameReader, Next};
 
 /// How many requests of a session may be unanswered.
-const REQUESTS: usize = 64;
+const REQUESTS: usize = Limits::REQUESTS;
 
 /// Closes the session. Its transaction ends as left, but for one that is being committed.
 fn end_session(alloc: Global, desk: &mut Desk, session: &mut Session) -> Result<(), Memory>

@@ -9,6 +9,7 @@ ghost use Rattle.us_world.specs.Lines.{waiting, IsBuilt, GoesBy, StoppedBy, IsDe
 use crate::{History, WorldFault};
 use std::alloc::Global;
 use std::marker::Model;
+use us_base::Limits;
 use us_kind::{Bytes, Items, Memory};
 use us_peer_wire::Packet;
 use us_report::{Report, Waiting};
@@ -20,13 +21,13 @@ use us_value::Catalog;
 const SITE: u8 = 1;
 
 /// The most events of a run.
-const MOST_EVENTS: u64 = 1_000_000;
+const MOST_EVENTS: u64 = Limits::RUN_EVENTS;
 
 /// The most sessions that are opened in a run.
-const MOST_SESSIONS: u64 = 512;
+const MOST_SESSIONS: u64 = Limits::RUN_SESSIONS;
 
 /// The most transactions that are begun in a run.
-const MOST_TRANSACTIONS: u64 = 20_000;
+const MOST_TRANSACTIONS: u64 = Limits::RUN_TRANSACTIONS;
 
 /// A packet that was sent, and whether it was delivered.
 #[derive(Drop)]
