@@ -13,6 +13,7 @@ use Rattle.unistore.specs.declared.status.Status.{Status}
 use Rattle.unistore.specs.declared.status.Status.TheVariants.{Done, Words, Input, ReadFault, WriteFault, LinkFault, Memory, Limit}
 use Rattle.unistore.specs.Answers.{SourceState, SinkState, Came, Performs, Performed, Passed, PassesLimit, ComesBehind, Refuses, RefusesInput, RefusesLength, Replays, AnswersForm, is_short, IsRead, IsDone, IsRefusedAt, IsRefusedInput, IfInput, IsPassedBy, IsLimited, IfLimit}
 use Rattle.unistore.specs.Schedule.{schedule_of}
+use Rattle.us_edge.specs.Faults.{Rose}
 
 pub form_is : (form : Form) → form ≡ Replay (is_short form)
 form_is (Replay short) = refl
@@ -58,26 +59,44 @@ was-read : (s t : SourceState) (text : List ℕ) → Came text s t → IsRead s.
 was-read s t text came = record { given = came.given; end = came.end }
 
 done_of : (short : Bool) (s t : SourceState) (k l : SinkState) (text : List ℕ) (schedule : Schedule) → Came text s t → schedule_of text ≡ schedule
-    → Performs short schedule k l Done → IsDone s.left t.left k.written l.written
+    → Performs short schedule k l Done → IsDone (Some (Replay short)) s.left t.left k.written l.written
 done_of short s t k l text (Refused refusal) came e h = absurd h
 done_of short s t k l text (Read script refused) came e (inl h) = absurd h.says
 done_of short s t k l text (Read script (Some refusal)) came e (inr (inl h)) = absurd h.refuses
 done_of short s t k l text (Read script None) came e (inr (inl h)) = record {
+  short = short;
+  replays = refl;
   text = text;
   read = was-read s t text came;
   script = script;
   accepted = e;
   report = h.report;
   is = h.is;
-  short = short;
   whole = h.tells;
 }
 done_of short s t k l text (Read script refused) came e (inr (inr h)) = absurd h
 
-pub is_done : (form : Option Form) (s t : SourceState) (k l : SinkState) → AnswersForm form s t k l Done → IsDone s.left t.left k.written l.written
+pub is_done : (form : Option Form) (s t : SourceState) (k l : SinkState) → AnswersForm form s t k l Done → IsDone form s.left t.left k.written l.written
 is_done None s t k l h = absurd h
 is_done (Some (Replay short)) s t k l (inl h) = absurd h.refuses
 is_done (Some (Replay short)) s t k l (inr h) = done_of short s t k l h.text (schedule_of h.text) h.came refl h.performs
+
+-- A READ OR A WRITE THAT FAILED
+pub read_failed : (form : Option Form) (s t : SourceState) (k l : SinkState) → AnswersForm form s t k l ReadFault → Rose s.faults t.faults × (l.written ≡ k.written)
+read_failed None s t k l h = absurd h
+read_failed (Some (Replay short)) s t k l h = (h.rose, h.silent)
+
+performs-write : (short : Bool) (schedule : Schedule) (k l : SinkState) → Performs short schedule k l WriteFault → Rose k.faults l.faults
+performs-write short (Refused refusal) k l h = h.rose
+performs-write short (Read script refused) k l (inl h) = h.says.rose
+performs-write short (Read script None) k l (inr (inl h)) = h.tells.rose
+performs-write short (Read script (Some refusal)) k l (inr (inl h)) = h.refuses.rose
+performs-write short (Read script refused) k l (inr (inr h)) = absurd h
+
+pub write_failed : (form : Option Form) (s t : SourceState) (k l : SinkState) → AnswersForm form s t k l WriteFault → Rose k.faults l.faults
+write_failed None s t k l h = h.rose
+write_failed (Some (Replay short)) s t k l (inl h) = h.refuses.rose
+write_failed (Some (Replay short)) s t k l (inr h) = performs-write short (schedule_of h.text) k l h.performs
 
 -- A REFUSED INPUT
 input_at : (s t : SourceState) (k l : SinkState) (text : List ℕ) (refusal : Refusal) (line : ℕ) (reason : Reason) → Came text s t → IsRefusedAt (schedule_of text) refusal

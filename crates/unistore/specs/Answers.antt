@@ -209,15 +209,17 @@ pub record IsRead (left left_after : Option (List ℕ)) (text : List ℕ) : Type
   pub given : Gives left left_after text
   pub end : IsAtEnd left_after
 
--- the text was read whole, none of its lines is refused, and the report of these was written whole
-pub record IsDone (left left_after written written_after : Option (List ℕ)) : Type 0 where
+-- the words ask for a replay, the text was read whole, none of its lines is refused, and the report of these was written
+-- whole, or its last line alone where that was asked
+pub record IsDone (asked : Option Form) (left left_after written written_after : Option (List ℕ)) : Type 0 where
+  pub short : Bool
+  pub replays : asked ≡ Some (Replay short)
   pub text : List ℕ
   pub read : IsRead left left_after text
   pub script : Script
   pub accepted : schedule_of text ≡ Read script None
   pub report : Report
   pub is : IsReportOf script report
-  pub short : Bool
   pub whole : Appends written written_after (text_of short report)
 
 -- where a text is refused: before any line is performed, or behind lines that lead to a world

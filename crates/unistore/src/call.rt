@@ -1,4 +1,5 @@
 ghost use Rattle.std.specs.Prelude.{◌≡◌, ◌≢◌, ◌⊎◌, None, map, string_bytes};
+ghost use Rattle.us_edge.specs.Faults.{Rose};
 ghost use Rattle.unistore.specs.Answers.{form_of, Answers, IsDone, IsRefusedInput, IsLimited, IfInput, IfLimit};
 
 use crate::Status;
@@ -26,7 +27,9 @@ pub fn unistore<S: Source, K: Sink, L: Links, C: Clock>(
     // The same, for what is asked most.
     ensures words { form_of (map string_bytes words.now) ≡ None → (result ≡ Status.Words) ⊎ (result ≡ Status.WriteFault) }
     ensures only_words { result ≡ Status.Words → form_of (map string_bytes words.now) ≡ None }
-    ensures done { result ≡ Status.Done → IsDone (S.left source.old) (S.left source.new) (K.written sink.old) (K.written sink.new) }
+    ensures done { result ≡ Status.Done → IsDone (form_of (map string_bytes words.now)) (S.left source.old) (S.left source.new) (K.written sink.old) (K.written sink.new) }
+    ensures read_fault { result ≡ Status.ReadFault → Rose (S.faults source.old) (S.faults source.new) × (K.written sink.new ≡ K.written sink.old) }
+    ensures write_fault { result ≡ Status.WriteFault → Rose (K.faults sink.old) (K.faults sink.new) }
     ensures input { IfInput result (λ line reason. IsRefusedInput (S.left source.old) (S.left source.new) (K.written sink.old) (K.written sink.new) line reason) }
     ensures limit { IfLimit result (λ which line. IsLimited (S.left source.old) (S.left source.new) (K.written sink.old) (K.written sink.new) which line) }
     ensures linked { result ≢ Status.LinkFault }

@@ -1,6 +1,6 @@
 //! Runs over all kinds, their expected reports worked by hand from the rules.
 use crate::tests::answered;
-use crate::{Reason, Status};
+use crate::{LimitKind, Reason, Status};
 use std::alloc::Global;
 use std::test::Fail;
 use us_config::{ConfigFault, Key};
@@ -17,16 +17,17 @@ fn push_frame(text: &mut String, frame: &str) -> Result<(), Fail> {
     Ok(())
 }
 
-/// A line of one frame that writes, or adds to a set, a value of so many bytes, of which the first is given.
-fn push_value(text: &mut String, code: &str, length: u16, first: &str) -> Result<(), Fail> {
+/// A line of one frame that writes, or adds to a set, a value of so many bytes, of which the last is given.
+fn push_value(text: &mut String, code: &str, length: u16, last: &str) -> Result<(), Fail> {
     write!(
         text,
-        "bytes 1 1 1 {:08x}0102010161{code}{length:04x}{first}",
+        "bytes 1 1 1 {:08x}0102010161{code}{length:04x}",
         u32::from(length) + 8
     )?;
     for _ in 1..length {
         text.push_str("61")?;
     }
+    text.push_str(last)?;
     text.push_str("\n")?;
     Ok(())
 }
@@ -196,6 +197,7 @@ fn too_many_requests(rt: HostRuntime) -> Result<(), Fail> {
     for _ in 0..65 {
         input.push_str("00000006010201016101")?;
     }
+    input.push_str("\n")?;
     let ended = answered(rt.alloc(), "replay", input.as_str())?;
     assert_eq!(rt; ended.status, Status::Done);
     assert_eq!(rt;
@@ -252,33 +254,126 @@ fn a_late_version(rt: HostRuntime) -> Result<(), Fail> {
     Ok(())
 }
 
-/// The members of a set up to the bound of an answer, and one more.
-#[test]
-fn answers_up_to_their_bound(rt: HostRuntime) -> Result<(), Fail> {
-    let alloc = rt.alloc();
-    let mut input = String::from_str(
+/// The members of a set.
+const MEMBERS: &str = "00000006010201016105";
+
+/// A set takes 63 values in one transaction, and one more in the next, which asks for its members: these pass the bound
+/// of an answer. The first transaction ends with these frames.
+fn full_set(alloc: Global, last: &[&str]) -> Result<String, Fail> {
+    let mut text = String::from_str(
         alloc,
         "[[space]]\nnumber = 1\nkind = \"set\"\n---\nopen 1 1\n",
     )?;
-    push_frame(&mut input, BEGIN)?;
+    push_frame(&mut text, BEGIN)?;
     for i in 0u8..63 {
-        let first = format!(in alloc; "{i:02x}")?;
-        push_value(&mut input, "07", 1024, first.as_str())?;
-        input.push_str("flush 1 1\n")?;
+        let number = format!(in alloc; "{i:02x}")?;
+        push_value(&mut text, "07", 1024, number.as_str())?;
+        text.push_str("flush 1 1\n")?;
     }
-    push_frame(&mut input, "00000006010201016105")?;
-    push_frame(&mut input, COMMIT)?;
-    push_frame(&mut input, BEGIN)?;
-    push_value(&mut input, "07", 1024, "3f")?;
-    input.push_str("flush 1 1\n")?;
-    push_frame(&mut input, "00000006010201016105")?;
-    push_frame(&mut input, COMMIT)?;
-    let ended = answered(alloc, "replay short", input.as_str())?;
+    for frame in last {
+        push_frame(&mut text, frame)?;
+    }
+    push_frame(&mut text, BEGIN)?;
+    push_value(&mut text, "07", 1024, "3f")?;
+    text.push_str("flush 1 1\n")?;
+    push_frame(&mut text, MEMBERS)?;
+    push_frame(&mut text, COMMIT)?;
+    Ok(text)
+}
+
+/// What a run of such a set writes, in short.
+const FULL_SET: &str = "committed 2 strong 0 aborted 0 loose 0 links 0 refused 1 waiting 0\n";
+
+#[test]
+fn an_answer_past_its_bound(rt: HostRuntime) -> Result<(), Fail> {
+    let input = full_set(rt.alloc(), &[COMMIT])?;
+    let ended = answered(rt.alloc(), "replay short", input.as_str())?;
+    assert_eq!(rt; ended.status, Status::Done);
+    assert_eq!(rt; ended.written.as_slice(), FULL_SET.as_bytes());
+    Ok(())
+}
+
+// With one value less the members are told.
+#[test]
+fn answers_up_to_their_bound(rt: HostRuntime) -> Result<(), Fail> {
+    let input = full_set(rt.alloc(), &[MEMBERS, COMMIT])?;
+    let ended = answered(rt.alloc(), "replay short", input.as_str())?;
+    assert_eq!(rt; ended.status, Status::Done);
+    assert_eq!(rt; ended.written.as_slice(), FULL_SET.as_bytes());
+    Ok(())
+}
+
+/// Four lines of bytes, each of so many transactions that are begun and abandoned.
+fn abandoned(alloc: Global, each: u32) -> Result<String, Fail> {
+    let mut text = String::from_str(alloc, "---\nopen 1 1\n")?;
+    for _ in 0..4 {
+        text.push_str("bytes 1 1 1 ")?;
+        for _ in 0..each {
+            text.push_str(BEGIN)?;
+            text.push_str("000000020105")?;
+        }
+        text.push_str("\n")?;
+    }
+    Ok(text)
+}
+
+#[test]
+fn as_many_transactions_as_may_be(rt: HostRuntime) -> Result<(), Fail> {
+    let input = abandoned(rt.alloc(), 5000)?;
+    let ended = answered(rt.alloc(), "replay short", input.as_str())?;
     assert_eq!(rt; ended.status, Status::Done);
     assert_eq!(rt;
         ended.written.as_slice(),
-        "committed 2 strong 0 aborted 0 loose 0 links 0 refused 1 waiting 0\n".as_bytes()
+        "committed 0 strong 0 aborted 0 loose 20000 links 0 refused 0 waiting 0\n".as_bytes()
     );
+    Ok(())
+}
+
+#[test]
+fn too_many_transactions(rt: HostRuntime) -> Result<(), Fail> {
+    let input = abandoned(rt.alloc(), 5001)?;
+    let ended = answered(rt.alloc(), "replay", input.as_str())?;
+    let which = LimitKind::Transactions;
+    assert_eq!(rt; ended.status, Status::Limit { which, line: 6 });
+    assert_eq!(rt;
+        ended.written.as_slice(),
+        "refused limit transactions line 6\n".as_bytes()
+    );
+    Ok(())
+}
+
+/// The example of the README.
+const EXAMPLE: &str = "\
+[[space]]\n\
+number = 1\n\
+kind = \"counter\"\n\
+[[space]]\n\
+number = 2\n\
+kind = \"set\"\n\
+---\n\
+open 1 1\n\
+bytes 1 1 1 0000000201010000000e010201016104000000000000006400000009010202016307000178000000020103\n\
+flush 1 1\n\
+bytes 1 1 1 0000000201010000000e010201016104ffffffffffffffc40000000601020201630500000006010201016103000000020103\n\
+flush 1 1\n\
+";
+
+const EXAMPLE_REPORT: &str = "\
+t 1.1.1 1.1.1 1 causal -\n\
+o 1:61 add:100 done\n\
+o 2:63 add:78 done\n\
+t 1.1.2 1.1.1 2 causal 1.1.1=1\n\
+o 1:61 add:-60 done\n\
+o 2:63 members values:1:78\n\
+o 1:61 read number:40\n\
+committed 2 strong 0 aborted 0 loose 0 links 0 refused 0 waiting 0\n\
+";
+
+#[test]
+fn the_example(rt: HostRuntime) -> Result<(), Fail> {
+    let ended = answered(rt.alloc(), "replay", EXAMPLE)?;
+    assert_eq!(rt; ended.status, Status::Done);
+    assert_eq!(rt; ended.written.as_slice(), EXAMPLE_REPORT.as_bytes());
     Ok(())
 }
 

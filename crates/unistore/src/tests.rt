@@ -307,6 +307,27 @@ fn words_that_are_no_form(rt: HostRuntime) -> Result<(), Fail> {
     Ok(())
 }
 
+/// The words are looked at first, whatever the input is.
+#[test]
+fn words_before_the_input(rt: HostRuntime) -> Result<(), Fail> {
+    for input in ["---\n", "", "open 1 1\n"] {
+        let ended = answered(rt.alloc(), "replay long", input)?;
+        assert_eq!(rt; ended.status, Status::Words, "{input}");
+    }
+    Ok(())
+}
+
+/// A word before the separator is no TOML.
+#[test]
+fn a_word_before_the_separator(rt: HostRuntime) -> Result<(), Fail> {
+    let ended = answered(rt.alloc(), "replay", "open 1 1\n---\n")?;
+    assert_eq!(rt;
+        ended.written.as_slice(),
+        b"refused config top NotToml\n".as_slice()
+    );
+    Ok(())
+}
+
 #[test]
 fn ends_of_lines(rt: HostRuntime) -> Result<(), Fail> {
     for input in ["---", "---\n", "---\r\n", "# a\r\n\r\n---\n\n# b"] {

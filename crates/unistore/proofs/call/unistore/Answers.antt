@@ -3,7 +3,7 @@ use Rattle.unistore.specs.declared.form.Form.{Form}
 use Rattle.unistore.specs.declared.form.Form.TheVariants.{Replay}
 use Rattle.unistore.specs.declared.status.Status.{Status}
 use Rattle.unistore.specs.Answers.{SourceState, SinkState, AnswersForm, Replays, form_of, is_short}
-use Rattle.unistore.proofs.Causes.{form_is, words_only, no_form, not_linked, is_done, is_input, is_limit}
+use Rattle.unistore.proofs.Causes.{form_is, words_only, no_form, not_linked, is_done, read_failed, write_failed, is_input, is_limit}
 use Rattle.unistore.proofs.call.unistore.Goals as goal
 
 pub returns-in-None-clause-answers : goal.returns-in-None-clause-answers
@@ -44,6 +44,26 @@ returns-in-None-clause-done g c =
     let l : SinkState = record { written = g.K.Sink.written c.refuse_words.new.sink; faults = g.K.Sink.faults c.refuse_words.new.sink } in
     let P : Status → Type 0 = λ status. AnswersForm form s t k l status in
     λ e. is_done form s t k l (subst P e (returns-in-None-clause-answers g c))
+
+pub returns-in-None-clause-read_fault : goal.returns-in-None-clause-read_fault
+returns-in-None-clause-read_fault g c =
+    let form = form_of (map string_bytes c.args.words.now) in
+    let s : SourceState = record { left = g.S.Source.left c.args.source.now; faults = g.S.Source.faults c.args.source.now } in
+    let t : SourceState = record { left = g.S.Source.left c.args.source.now; faults = g.S.Source.faults c.args.source.now } in
+    let k : SinkState = record { written = g.K.Sink.written c.args.sink.now; faults = g.K.Sink.faults c.args.sink.now } in
+    let l : SinkState = record { written = g.K.Sink.written c.refuse_words.new.sink; faults = g.K.Sink.faults c.refuse_words.new.sink } in
+    let P : Status → Type 0 = λ status. AnswersForm form s t k l status in
+    λ e. read_failed form s t k l (subst P e (returns-in-None-clause-answers g c))
+
+pub returns-in-None-clause-write_fault : goal.returns-in-None-clause-write_fault
+returns-in-None-clause-write_fault g c =
+    let form = form_of (map string_bytes c.args.words.now) in
+    let s : SourceState = record { left = g.S.Source.left c.args.source.now; faults = g.S.Source.faults c.args.source.now } in
+    let t : SourceState = record { left = g.S.Source.left c.args.source.now; faults = g.S.Source.faults c.args.source.now } in
+    let k : SinkState = record { written = g.K.Sink.written c.args.sink.now; faults = g.K.Sink.faults c.args.sink.now } in
+    let l : SinkState = record { written = g.K.Sink.written c.refuse_words.new.sink; faults = g.K.Sink.faults c.refuse_words.new.sink } in
+    let P : Status → Type 0 = λ status. AnswersForm form s t k l status in
+    λ e. write_failed form s t k l (subst P e (returns-in-None-clause-answers g c))
 
 pub returns-in-None-clause-input : goal.returns-in-None-clause-input
 returns-in-None-clause-input g c =
@@ -112,6 +132,26 @@ returns-in-Some-clause-done g c =
     let l : SinkState = record { written = g.K.Sink.written c.replay.new.sink; faults = g.K.Sink.faults c.replay.new.sink } in
     let P : Status → Type 0 = λ status. AnswersForm form s t k l status in
     λ e. is_done form s t k l (subst P e (returns-in-Some-clause-answers g c))
+
+pub returns-in-Some-clause-read_fault : goal.returns-in-Some-clause-read_fault
+returns-in-Some-clause-read_fault g c =
+    let form = form_of (map string_bytes c.args.words.now) in
+    let s : SourceState = record { left = g.S.Source.left c.args.source.now; faults = g.S.Source.faults c.args.source.now } in
+    let t : SourceState = record { left = g.S.Source.left c.replay.new.source; faults = g.S.Source.faults c.replay.new.source } in
+    let k : SinkState = record { written = g.K.Sink.written c.args.sink.now; faults = g.K.Sink.faults c.args.sink.now } in
+    let l : SinkState = record { written = g.K.Sink.written c.replay.new.sink; faults = g.K.Sink.faults c.replay.new.sink } in
+    let P : Status → Type 0 = λ status. AnswersForm form s t k l status in
+    λ e. read_failed form s t k l (subst P e (returns-in-Some-clause-answers g c))
+
+pub returns-in-Some-clause-write_fault : goal.returns-in-Some-clause-write_fault
+returns-in-Some-clause-write_fault g c =
+    let form = form_of (map string_bytes c.args.words.now) in
+    let s : SourceState = record { left = g.S.Source.left c.args.source.now; faults = g.S.Source.faults c.args.source.now } in
+    let t : SourceState = record { left = g.S.Source.left c.replay.new.source; faults = g.S.Source.faults c.replay.new.source } in
+    let k : SinkState = record { written = g.K.Sink.written c.args.sink.now; faults = g.K.Sink.faults c.args.sink.now } in
+    let l : SinkState = record { written = g.K.Sink.written c.replay.new.sink; faults = g.K.Sink.faults c.replay.new.sink } in
+    let P : Status → Type 0 = λ status. AnswersForm form s t k l status in
+    λ e. write_failed form s t k l (subst P e (returns-in-Some-clause-answers g c))
 
 pub returns-in-Some-clause-input : goal.returns-in-Some-clause-input
 returns-in-Some-clause-input g c =
