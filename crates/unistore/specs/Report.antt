@@ -1,11 +1,9 @@
 -- The report of what a text asks for, and what holds of it.
-use Rattle.std.specs.Prelude.{ℕ, Bool}
-use Rattle.us_exec.specs.declared.Done.{Done}
-use Rattle.us_exec.specs.Consistency.{IsPor}
+use Rattle.std.specs.Prelude.{ℕ}
 use Rattle.us_report.specs.declared.report.Report.{Report}
 use Rattle.us_world.specs.declared.fault.LinesFault.{LinesFault}
 use Rattle.us_world.specs.declared.fault.WorldFault.{WorldFault}
-use Rattle.us_world.specs.Lines.{LeadOn as LinesLeadOn, PassAt as LinesPassAt, IsLimitOf as IsLimitOfLines, IsReportOf as IsWorldReport}
+use Rattle.us_world.specs.Lines.{LeadOn as LinesLeadOn, PassAt as LinesPassAt, IsLimitOf as IsLimitOfLines, IsReportOf as IsWorldReport, IsConsistent}
 use Rattle.unistore.specs.declared.schedule.Script.{Script}
 
 -- the lines lead, from the opening world with the spaces on, to some world
@@ -20,8 +18,8 @@ PassAt script number which = LinesPassAt script.catalog script.lines number whic
 abbrev pub IsLimitOf : Script → LinesFault → Type 0
 IsLimitOf script e = IsLimitOfLines script.catalog script.lines e
 
--- THE HEADLINE: the report is that of the world which the machine's run over the lines reaches, and its execution is
--- consistent, whatever conflicts are declared
+-- THE HEADLINE: the report is that of the world which the machine's run over the lines reaches, and its execution is well
+-- formed, and consistent whatever conflicts are declared
 pub record IsReportOf (script : Script) (report : Report) : Type 0 where
   pub is : IsWorldReport script.catalog script.lines report
-  pub consistent : (declared : Done → Done → Bool) → IsPor declared report.execution
+  pub execution : IsConsistent report.execution

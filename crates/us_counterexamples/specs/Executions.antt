@@ -9,6 +9,7 @@ use Rattle.us_exec.specs.declared.Count.{Count}
 use Rattle.us_exec.specs.declared.Entry.{Entry}
 use Rattle.us_exec.specs.declared.Execution.{Execution}
 use Rattle.us_exec.specs.Consistency.{IsClosed, IsValued, IsOrdered}
+use Rattle.us_order.specs.WellFormed.{IsWellFormed}
 
 abbrev pub session : SessionName
 session = record { site = 1; coord = 1; number = 1 }
@@ -62,3 +63,16 @@ StaleRead = IsValued (executed (writer false ∷ reader false first_counted answ
 -- both are strong, every operation conflicts with every other, and neither is before the other
 abbrev pub OverlookedConflict : Type 0
 OverlookedConflict = IsOrdered (λ a b. true) (executed (writer true ∷ reader true [] answer.Nothing ∷ [])) → ⊥
+
+-- the second has the number of the first
+abbrev pub OneNumber : Type 0
+OneNumber = IsWellFormed (executed (writer false ∷ (record (reader false [] answer.Nothing) { number = 1 }) ∷ [])) → ⊥
+
+-- the second has the name of the first
+abbrev pub OneName : Type 0
+OneName = IsWellFormed (executed (writer false ∷ (record (reader false first_counted answer.Nothing) { tid = (writer false).tid }) ∷ [])) → ⊥
+
+-- the second was begun before the first
+abbrev pub BegunBefore : Type 0
+BegunBefore =
+    IsWellFormed (executed (writer false ∷ (record (reader false first_counted answer.Nothing) { tid = record { site = 1; coord = 1; seq = 0 } }) ∷ [])) → ⊥

@@ -1,7 +1,7 @@
-//! Executions worked by hand that consistency refuses: its definition doesn't accept everything.
+//! Executions worked by hand that are refused: the definitions of well formed and of consistent don't accept everything.
 #![tactic(auto)]
 
-ghost use Rattle.us_counterexamples.specs.Executions.{OverlookedPast, WrongOrder, StaleRead, OverlookedConflict};
+ghost use Rattle.us_counterexamples.specs.Executions.{OverlookedPast, WrongOrder, StaleRead, OverlookedConflict, OneNumber, OneName, BegunBefore};
 
 /// Where a transaction's past lacks an earlier one of its session, the execution isn't closed.
 pub fn overlooked_past()
@@ -21,4 +21,19 @@ pub fn stale_read()
 /// Where neither of two strong transactions that conflict is before the other, the execution isn't ordered.
 pub fn overlooked_conflict()
     ensures { OverlookedConflict }
+{}
+
+/// Where two transactions of a session have one number, the execution isn't well formed.
+pub fn one_number()
+    ensures { OneNumber }
+{}
+
+/// Where two transactions have one name, the execution isn't well formed.
+pub fn one_name()
+    ensures { OneName }
+{}
+
+/// Where the second transaction of a session was begun before the first, the execution isn't well formed.
+pub fn begun_before()
+    ensures { BegunBefore }
 {}

@@ -140,7 +140,7 @@ sum_snapshot spaces p l part c i v h =
     let b = sum-at_most c.begun.snapshot c.vector (at_most-true c.begun.snapshot c.vector f.grows) in
     (omega arith, λ s. let k = sum-below c.begun.snapshot c.vector (at_most-true c.begun.snapshot c.vector f.grows) 1 (f.above s) in omega arith)
 
-not_preceding : (spaces : Spaces) (p : Partition) (l : Ledger) → PartitionFacts spaces p l → (c d : Committed) → In d l.history.committed → at_most c.vector d.begun.snapshot ≡ true → precedes d c ≡ false
+pub not_preceding : (spaces : Spaces) (p : Partition) (l : Ledger) → PartitionFacts spaces p l → (c d : Committed) → In d l.history.committed → at_most c.vector d.begun.snapshot ≡ true → precedes d c ≡ false
 not_preceding spaces p l part c d j h = on (is_stamped d) refl
   where
     sums : (sum_of c.vector ≤ sum_of d.vector) × (is_stamped d ≡ true → sum_of c.vector < sum_of d.vector)

@@ -12,6 +12,9 @@ pub mod Pasts
 pub mod Entries
 pub mod Closed
 pub mod Direct
+pub mod Ascending
+pub mod Numbers
+pub mod Formed
 pub mod Seen
 pub mod Valued
 pub mod Por

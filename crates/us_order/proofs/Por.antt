@@ -7,7 +7,7 @@ use Rattle.us_exec.specs.Consistency.{IsValued}
 use Rattle.us_model.specs.State.{Partition, Spaces}
 use Rattle.us_model.specs.Worlds.{start, run}
 use Rattle.us_model.specs.Executions.{Committed, ops_of, past_of, arbitrated, entries_of, execution_by}
-use Rattle.us_order.specs.Laws.{EveryRunIsPor, PastsAreDirect, ExecutionsAreDirect}
+use Rattle.us_order.specs.Laws.{EveryRunIsPor, PastsAreDirect, ExecutionsAreDirect, ExecutionsAreWellFormed, HistoriesAscend}
 use Rattle.us_order.proofs.Ledgers.{Ledger}
 use Rattle.us_order.proofs.Facts.{PartitionFacts, SharedFacts}
 use Rattle.us_order.proofs.World.{ledger_of, start_facts, run_facts}
@@ -16,6 +16,9 @@ use Rattle.us_order.proofs.Valued.{values_of}
 use Rattle.us_order.proofs.Entries.{in_arbitrated}
 use Rattle.us_order.proofs.Closed.{from_entry, from_loose, closed, ordered}
 use Rattle.us_order.proofs.Direct.{execution-same}
+use Rattle.us_order.proofs.Ascending.{ascends_by}
+use Rattle.us_order.proofs.Numbers.{history_numbered}
+use Rattle.us_order.proofs.Formed.{well_formed}
 
 -- VALUED
 valued : (spaces : Spaces) (p : Partition) (l : Ledger) → PartitionFacts spaces p l → SharedFacts l → IsValued (execution_by l.history)
@@ -59,3 +62,15 @@ executions_direct spaces hs =
     let w = run hs (start spaces) in
     let h = run_facts spaces hs (start spaces) (start_facts spaces) in
     execution-same spaces h.shard.partition (ledger_of h.shard w.packets w.notes) h.facts.part h.facts.all
+
+pub histories_ascended : HistoriesAscend
+histories_ascended spaces hs =
+    let w = run hs (start spaces) in
+    let h = run_facts spaces hs (start spaces) (start_facts spaces) in
+    ascends_by spaces h.shard.partition (ledger_of h.shard w.packets w.notes) h.facts.part h.facts.all
+
+pub all_well_formed : ExecutionsAreWellFormed
+all_well_formed spaces hs =
+    let w = run hs (start spaces) in
+    let h = run_facts spaces hs (start spaces) (start_facts spaces) in
+    well_formed spaces h.shard.partition (ledger_of h.shard w.packets w.notes) h.facts.part h.facts.all (history_numbered w.notes)

@@ -9,6 +9,8 @@ use Rattle.us_model.specs.State.{Spaces}
 use Rattle.us_model.specs.Worlds.{Happening, start, run}
 use Rattle.us_model.specs.Executions.{Begun, past_of, history_of, execution_of}
 use Rattle.us_order.specs.Pasts.{direct_count, direct_execution}
+use Rattle.us_order.specs.Ascending.{Ascends}
+use Rattle.us_order.specs.WellFormed.{IsWellFormed}
 
 -- whatever spaces are configured, whatever happens, and whatever conflicts are declared, the execution is closed, valued and ordered
 abbrev pub EveryRunIsPor : Type 0
@@ -24,3 +26,11 @@ PastsAreDirect =
 -- the execution of each run is the one whose pasts are counted in one step
 abbrev pub ExecutionsAreDirect : Type 0
 ExecutionsAreDirect = (spaces : Spaces) (hs : List Happening) → execution_of (run hs (start spaces)).notes ≡ direct_execution (history_of (run hs (start spaces)).notes)
+
+-- after each run, in each session the transactions and their vectors ascend
+abbrev pub HistoriesAscend : Type 0
+HistoriesAscend = (spaces : Spaces) (hs : List Happening) → Ascends (history_of (run hs (start spaces)).notes)
+
+-- the execution of each run is well formed
+abbrev pub ExecutionsAreWellFormed : Type 0
+ExecutionsAreWellFormed = (spaces : Spaces) (hs : List Happening) → IsWellFormed (execution_of (run hs (start spaces)).notes)

@@ -1,2 +1,5 @@
 pub mod Pasts
+pub mod Ascending
+pub mod Numbers
+pub mod WellFormed
 pub mod Laws

@@ -1,7 +1,7 @@
 //! Laws over every run of the written machine.
 #![tactic(auto)]
 
-ghost use Rattle.us_order.specs.Laws.{EveryRunIsPor, ExecutionsAreDirect, PastsAreDirect};
+ghost use Rattle.us_order.specs.Laws.{EveryRunIsPor, ExecutionsAreDirect, ExecutionsAreWellFormed, HistoriesAscend, PastsAreDirect};
 
 /// Whatever clients send and whichever packets come, in whatever order and however often, the execution of the run is
 /// consistent: its pasts are closed and stand earlier, each answer is its operation's value over its past and its own
@@ -20,4 +20,16 @@ pub fn pasts_are_direct()
 /// transaction in one step, entry for entry and loose transaction for loose transaction.
 pub fn executions_are_direct()
     ensures { ExecutionsAreDirect }
+{}
+
+/// In each session, later transactions have greater vectors, and none that updates is in its own snapshot. So what leads to
+/// a transaction comes first in each session, and can be searched for by halves.
+pub fn histories_ascend()
+    ensures { HistoriesAscend }
+{}
+
+/// The execution of a run is well formed: in the order of the entries each session's committed transactions are numbered 1, 2
+/// and so on, as they were begun, and no two transactions, committed or not, have one name.
+pub fn executions_are_well_formed()
+    ensures { ExecutionsAreWellFormed }
 {}

@@ -1,17 +1,17 @@
 -- Deliveries, one and many.
-use Rattle.std.proofs.Common.{◌≡◌, ◌∙◌, ℕ, zero, suc, ◌+◌, ◌<◌, ◌≤◌, List, [], ◌∷◌, ◌++◌, length, map, Bool, true, false, Option, Some, None, Ok, Err, refl, sym, ap, subst, arith, length-append, nat_lt, ◌⊎◌, inl, inr, ◌-◌}
+use Rattle.std.proofs.Common.{◌≡◌, ◌∙◌, ℕ, zero, suc, ◌+◌, ◌<◌, ◌≤◌, List, [], ◌∷◌, ◌++◌, length, map, true, Some, None, Err, refl, sym, ap, subst, arith, length-append, nat_lt, ◌⊎◌, inl, inr, ◌-◌}
 use Rattle.std.proofs.lemmas.Bool.{cond-true}
 use Rattle.std.proofs.lemmas.Bool.Decides.{nat_tests}
 use Rattle.std.proofs.lemmas.List.{length-map}
-use Rattle.std.specs.Prelude.{⊤, Result, OnOk, IfErr}
+use Rattle.std.specs.Prelude.{⊤}
 use Rattle.std.specs.List.{slice_get}
 use Rattle.us_model.specs.declared.event.Event.TheVariants as event
 use Rattle.us_model.specs.Worlds.{World, Happening, Comes, nth, happens, run, least_undelivered, Flushes}
 use Rattle.us_world.specs.declared.world.Sent.{Sent}
 use Rattle.us_world.specs.declared.fault.WorldFault.{WorldFault}
 use Rattle.us_world.specs.declared.fault.WorldFault.TheVariants as fault
-use Rattle.us_world.specs.Limits.{Delivers, delivery, delivery_of, limit_of}
-use Rattle.us_world.specs.Kept.{Kept, StandsFor, packet_of, is_due_at, NoneDue, HasSkipped, HasCome, LimitSays, passed_by, marked, after_delivery}
+use Rattle.us_world.specs.Limits.{Delivers, delivery_of}
+use Rattle.us_world.specs.Kept.{Kept, StandsFor, packet_of, is_due_at, NoneDue, HasSkipped, LimitSays, passed_by, marked, after_delivery}
 use Rattle.us_world.specs.Lines.{GoesBy, PassesBy, StoppedBy, IsDelivery}
 use Rattle.us_world.proofs.Standing.{nth-place, events-at, stands_delivery, stands_skipped}
 use Rattle.us_world.proofs.Due.{least_place, no_least}

@@ -1,12 +1,11 @@
 -- Happenings, one after another: their limit, and what is kept along with them.
 use Rattle.std.proofs.Common.{◌≡◌, ◌∙◌, ℕ, ◌+◌, List, [], ◌∷◌, ◌++◌, length, Option, Some, None, Ok, Err, refl, sym, ap, subst, arith}
 use Rattle.std.specs.Prelude.{Result, OnOk, IfErr}
-use Rattle.us_model.specs.declared.event.Event.{Event}
 use Rattle.us_model.specs.Worlds.{World, Happening, happens, run}
 use Rattle.us_world.specs.declared.fault.WorldFault.{WorldFault}
 use Rattle.us_world.specs.declared.fault.WorldFault.TheVariants as fault
 use Rattle.us_world.specs.Limits.{past_limits, passed, or_else, limit_of}
-use Rattle.us_world.specs.Kept.{Kept, StandsFor, passed_by, IsLimit, LimitSays}
+use Rattle.us_world.specs.Kept.{Kept, StandsFor, passed_by, LimitSays}
 use Rattle.us_world.specs.Lines.{GoesBy, PassesBy, StoppedBy}
 
 pub run-append : (hs gs : List Happening) (w : World) → run (hs ++ gs) w ≡ run gs (run hs w)

@@ -1,28 +1,23 @@
 -- The lines of a schedule in turn, and the report at their end.
-use Rattle.std.proofs.Common.{◌≡◌, ◌∙◌, ℕ, ◌+◌, List, [], ◌∷◌, ◌++◌, length, Option, Some, None, Ok, Err, refl, sym, ap, subst, map, inl, inr, arith}
-use Rattle.std.specs.Prelude.{⊤, Result, OnOk, IfOk, IfErr}
-use Rattle.us_exec.specs.Consistency.{IsPor}
-use Rattle.us_schedule.specs.declared.line.Line.{Line}
+use Rattle.std.proofs.Common.{◌≡◌, ◌∙◌, ℕ, ◌+◌, List, [], ◌∷◌, ◌++◌, length, refl, sym, ap, subst, map, inl, inr}
 use Rattle.us_schedule.specs.declared.line.Line.TheVariants as line
 use Rattle.us_report.specs.declared.report.Report.{Report}
-use Rattle.us_model.specs.declared.event.Event.{Event}
 use Rattle.us_model.specs.declared.event.Event.TheVariants as event
 use Rattle.us_model.specs.State.{Spaces}
-use Rattle.us_model.specs.Worlds.{World, Happening, Opens, Sends, Closes, Flushes, at_site, happens, run, start, waits_of}
+use Rattle.us_model.specs.Worlds.{World, Happening, Opens, Sends, Closes, happens, run, start, waits_of}
 use Rattle.us_model.specs.Executions.{history_of, execution_of}
 use Rattle.us_order.specs.Pasts.{direct_execution}
-use Rattle.us_order.specs.Laws.{ExecutionsAreDirect, EveryRunIsPor}
+use Rattle.us_order.specs.Ascending.{Ascends}
+use Rattle.us_order.specs.Laws.{HistoriesAscend, ExecutionsAreDirect, ExecutionsAreWellFormed, EveryRunIsPor}
 use Rattle.us_world.specs.declared.fault.WorldFault.{WorldFault}
 use Rattle.us_world.specs.declared.fault.WorldFault.TheVariants as fault
-use Rattle.us_world.specs.declared.fault.LinesFault.{LinesFault}
-use Rattle.us_world.specs.declared.fault.LinesFault.TheVariants as ends
 use Rattle.us_world.specs.declared.fault.Numbered.{Numbered}
 use Rattle.us_world.specs.Direct.{reported}
 use Rattle.us_world.specs.Kept.{Kept, StandsFor, after_at}
-use Rattle.us_world.specs.Limits.{Performs, Begins, Delivers, delivery, Outcome, Reaches, Passes, Leads, GoesOn, EndsPast}
-use Rattle.us_world.specs.Lines.{IsBuilt, AllBuilt, GoesBy, PassesBy, StoppedBy, IsPerformed, IsStopped, IsDelivery, LeadTo, PassAt, HasReached, LeadOn, waiting, report_of, report_of_kept, IsReportOf, IsLimitOf, fault_at, IsConsistent}
+use Rattle.us_world.specs.Limits.{Performs, Begins, Outcome, Reaches, Passes, Leads}
+use Rattle.us_world.specs.Lines.{IsBuilt, AllBuilt, PassesBy, IsPerformed, IsStopped, PassAt, HasReached, LeadOn, waiting, report_of, report_of_kept, IsReportOf, IsLimitOf, fault_at, IsConsistent}
 use Rattle.us_world.proofs.Standing.{stands_at, events-at}
-use Rattle.us_world.proofs.Happenings.{run-append, OneEvent, goes_weaker, stopped_weaker}
+use Rattle.us_world.proofs.Happenings.{run-append, OneEvent}
 
 -- ONE LINE
 pub one_opening : (k : Kept) (site coord : ℕ) → OneEvent (Performs (line.Open site coord)) k (after_at k site (event.Open coord))
@@ -133,8 +128,14 @@ report_is spaces lines k report so direct is =
     in
     record { world = so.world; leads = so.leads; is = is ∙ report-same k so.world so.stands same }
 
-pub report_por : (spaces : Spaces) (lines : List Numbered) (report : Report) → EveryRunIsPor → IsReportOf spaces lines report → IsConsistent report.execution
-report_por spaces lines report por is declared =
+pub report_consistent : (spaces : Spaces) (lines : List Numbered) (report : Report) → EveryRunIsPor → ExecutionsAreWellFormed → IsReportOf spaces lines report → IsConsistent report.execution
+report_consistent spaces lines report por formed is =
     let by = led-by-run lines 0 (start spaces) is.world is.leads in
-    let there : IsPor declared (execution_of is.world.notes) = subst (λ (w : World). IsPor declared (execution_of w.notes)) (sym by.1) (por spaces by.0 declared) in
-    subst (λ (s : Report). IsPor declared s.execution) (sym is.is) there
+    let there : IsConsistent (execution_of (run by.0 (start spaces)).notes) = record { formed = formed spaces by.0; consistent = por spaces by.0 } in
+    subst (λ (s : Report). IsConsistent s.execution) (sym is.is) (subst (λ (w : World). IsConsistent (execution_of w.notes)) (sym by.1) there)
+
+pub history_ascends : (spaces : Spaces) (lines : List Numbered) (k : Kept) → HasReached spaces lines k → HistoriesAscend → Ascends k.history
+history_ascends spaces lines k so ascend =
+    let by = led-by-run lines 0 (start spaces) so.world so.leads in
+    let there : Ascends (history_of so.world.notes) = subst (λ (w : World). Ascends (history_of w.notes)) (sym by.1) (ascend spaces by.0) in
+    subst Ascends so.stands.history there

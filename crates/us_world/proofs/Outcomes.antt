@@ -1,12 +1,10 @@
 -- Lines lead to one outcome.
 use Rattle.std.proofs.Common.{◌≡◌, ◌∙◌, ℕ, ◌+◌, List, [], ◌∷◌, length, Option, Some, None, refl, sym, ap, subst, inl, inr, ◌⊎◌}
-use Rattle.std.specs.Prelude.{⊤}
 use Rattle.us_schedule.specs.declared.line.Line.{Line}
 use Rattle.us_schedule.specs.declared.line.Line.TheVariants as line
 use Rattle.us_model.specs.Worlds.{World, Happening, Comes, Flushes, least_undelivered, happens, run}
 use Rattle.us_world.specs.declared.fault.WorldFault.{WorldFault}
-use Rattle.us_world.specs.declared.fault.Numbered.{Numbered}
-use Rattle.us_world.specs.Limits.{passed, or_else, limit_of, Performs, Begins, Delivers, Outcome, Reaches, Passes, GoesOn, GoesPast, EndsPast, Leads, OutcomesAreOne}
+use Rattle.us_world.specs.Limits.{passed, or_else, limit_of, Performs, Begins, Delivers, Passes, Leads, OutcomesAreOne}
 
 -- the least packet is one
 same-least : (o : Option ℕ) (j k : ℕ) (g h : Happening) → o ≡ Some j → o ≡ Some k → g ≡ Comes j → h ≡ Comes k → g ≡ h

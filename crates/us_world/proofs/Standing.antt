@@ -1,11 +1,11 @@
 -- What is kept stands for the world, and goes along with it.
-use Rattle.std.proofs.Common.{◌≡◌, ◌∙◌, ◌⊎◌, ℕ, zero, suc, ◌+◌, ◌-◌, ◌≤◌, ◌<◌, List, [], ◌∷◌, ◌++◌, length, map, Bool, true, false, cond, Option, Some, None, refl, sym, ap, subst, arith, inl, inr, nat_lt, append_assoc, get_or}
+use Rattle.std.proofs.Common.{◌≡◌, ◌∙◌, ℕ, zero, suc, ◌+◌, ◌-◌, ◌≤◌, ◌<◌, List, [], ◌∷◌, ◌++◌, length, map, Bool, true, false, cond, Some, None, refl, sym, ap, subst, arith, nat_lt, append_assoc, get_or}
 use Rattle.std.proofs.lemmas.Option.{slice_get-get_or}
 use Rattle.std.specs.Prelude.{◌||◌, ◌==◌, Result, Err, OnOk}
 use Rattle.us_world.specs.declared.fault.WorldFault.TheVariants as fault
 use Rattle.us_world.specs.declared.fault.WorldFault.{WorldFault}
-use Rattle.std.specs.List.{slice_get, slice_set, list_any}
-use Rattle.std.proofs.lemmas.Bool.{cond-true, cond-false, cases_eq}
+use Rattle.std.specs.List.{slice_get, slice_set}
+use Rattle.std.proofs.lemmas.Bool.{cond-true}
 use Rattle.std.proofs.lemmas.Bool.Decides.{nat_tests}
 use Rattle.std.proofs.lemmas.List.{map-append}
 use Rattle.std.proofs.lemmas.List.Folds.{list_any-append}
@@ -15,11 +15,11 @@ use Rattle.us_model.specs.declared.event.Event.TheVariants as event
 use Rattle.us_model.specs.declared.event.Note.{Note}
 use Rattle.us_model.specs.State.{Site}
 use Rattle.us_model.specs.Sites.{Stepped, site_step}
-use Rattle.us_model.specs.Worlds.{World, Happening, Comes, nth, stepped, at_one, at_site, delivered, comes, happens, is_delivered}
+use Rattle.us_model.specs.Worlds.{World, Comes, nth, stepped, at_one, at_site, delivered, comes, happens, is_delivered}
 use Rattle.us_model.specs.Executions.{History, noted, noted_all, no_history}
 use Rattle.us_world.specs.declared.world.Sent.{Sent}
 use Rattle.us_world.specs.Limits.{is_opening, is_beginning, how_many, opened_in, begun_in}
-use Rattle.us_world.specs.Kept.{Kept, StandsFor, packet_of, fresh, unmarked, is_marked, is_marked_at, AllMarked, after_step, after_event, after_nothing, after_at, marked, after_delivery, HasSkipped, IsDelivered, HasCome, LimitSays, passed_by}
+use Rattle.us_world.specs.Kept.{Kept, StandsFor, packet_of, fresh, unmarked, is_marked_at, after_step, after_event, after_nothing, after_at, marked, after_delivery, HasSkipped, IsDelivered, HasCome, LimitSays, passed_by}
 
 -- PACKETS AND NOTES IN TURN
 -- one more is on its way

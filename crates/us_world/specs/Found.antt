@@ -1,10 +1,16 @@
 -- What is found at places.
-use Rattle.std.specs.Prelude.{◌≡◌, ℕ, zero, suc, List, [], ◌∷◌, length, map, filter, Bool, false, if◌then◌else◌, Option, Some, None, slice_get}
-use Rattle.std.specs.List.{range_with_len}
+use Rattle.std.specs.Prelude.{◌≡◌, ℕ, ◌≤◌, List, [], ◌∷◌, map, Bool, true, false, not, ◌&&◌, ◌||◌, if◌then◌else◌, nat_lt, max, Option, Some, None, slice_get}
+use Rattle.std.specs.List.{list_all}
+use Rattle.us_kind.specs.Words.{tid_eq}
+use Rattle.us_kind.specs.Updates.{AllLater}
+use Rattle.us_base.specs.Vector.{at_most}
 use Rattle.us_exec.specs.declared.SessionName.{SessionName}
 use Rattle.us_exec.specs.declared.Done.{Done}
 use Rattle.us_exec.specs.Past.{session_eq}
-use Rattle.us_model.specs.Executions.{Begun, Performed, Committed, leads}
+use Rattle.us_model.specs.Executions.{Begun, Performed, Committed, History, is_stamped}
+use Rattle.us_order.specs.Numbers.{AreNumbered}
+use Rattle.us_order.specs.Ascending.{SessionsAscend, IsNotInItsOwn}
+use Rattle.us_world.specs.declared.commits.Group.{Group}
 
 -- the operation found, before these
 abbrev pub done_before : Option Performed → List Done → List Done
@@ -16,30 +22,98 @@ abbrev pub done_at : List Performed → List ℕ → List Done
 done_at ps [] = []
 done_at ps (i ∷ is) = done_before (slice_get ps i) (done_at ps is)
 
--- the committed transactions of a session
-abbrev pub of_session : SessionName → List Committed → List Committed
-of_session s cs = filter (λ (c : Committed). session_eq c.begun.session s) cs
+-- the group of a transaction
+abbrev pub group_of : Committed → Group
+group_of c = record { session = c.begun.session; updates = is_stamped c }
 
--- the keys are the sessions of the transactions, which are numbered from 1 in each session
-pub record AreNumbered (cs : List Committed) (keys : List SessionName) : Type 0 where
-  pub sessions : keys ≡ map (λ (c : Committed). c.begun.session) cs
-  pub numbers : (s : SessionName) → map (λ (c : Committed). c.number) (of_session s cs) ≡ range_with_len 1 (length (of_session s cs))
+-- the keys are the groups of the transactions, which are numbered
+pub record IsIndexed (cs : List Committed) (keys : List Group) : Type 0 where
+  pub groups : keys ≡ map group_of cs
+  pub numbers : AreNumbered cs
 
--- whether the transaction found leads to another
-abbrev pub is_leading : Begun → Option Committed → Bool
-is_leading t None = false
-is_leading t (Some c) = leads c t
+-- updating, or not
+abbrev pub updates_so : Bool → Committed → Bool
+updates_so true c = is_stamped c
+updates_so false c = not (is_stamped c)
 
--- the same for the transactions at these places
-abbrev pub leading_at : Begun → List Committed → List ℕ → List Bool
-leading_at t cs is = map (λ i. is_leading t (slice_get cs i)) is
+-- of the session, and updating or not
+abbrev pub is_in_group : SessionName → Bool → Committed → Bool
+is_in_group s updates c = session_eq c.begun.session s && updates_so updates c
 
--- one more in front
-abbrev pub one_more : Bool → ℕ → ℕ
-one_more b zero = if b then 1 else 0
-one_more b (suc n) = suc (suc n)
+-- ---- the greatest number that passes a test
 
--- how many there are up to the last one that is true
-abbrev pub up_to_last : List Bool → ℕ
-up_to_last [] = 0
-up_to_last (b ∷ bs) = one_more b (up_to_last bs)
+abbrev pub greatest : (Committed → Bool) → List Committed → ℕ
+greatest test [] = 0
+greatest test (c ∷ cs) = if test c then max c.number (greatest test cs) else greatest test cs
+
+-- begun before this number
+abbrev pub is_earlier : ℕ → Committed → Bool
+is_earlier seq c = nat_lt c.begun.tid.seq seq
+
+-- in the snapshot
+abbrev pub is_shown : List ℕ → Committed → Bool
+is_shown snapshot c = at_most c.vector snapshot
+
+-- of the session, and earlier
+abbrev pub is_earlier_of : SessionName → ℕ → Committed → Bool
+is_earlier_of s seq c = session_eq c.begun.session s && is_earlier seq c
+
+-- of the session, updating, and in the snapshot
+abbrev pub is_shown_of : SessionName → List ℕ → Committed → Bool
+is_shown_of s snapshot c = is_in_group s true c && is_shown snapshot c
+
+-- what leads to the transaction can be searched for by halves
+pub record IsSearchable (cs : List Committed) (t : Begun) : Type 0 where
+  pub sessions : SessionsAscend cs
+  pub others : IsNotInItsOwn cs t
+
+-- ---- a history that was put together by hand
+
+-- of two of a session, the one with the lesser number has the lesser transaction and vector
+abbrev pub ascend_by_number : Committed → Committed → Bool
+ascend_by_number c d = not (session_eq c.begun.session d.begun.session && nat_lt c.number d.number) || (nat_lt c.begun.tid.seq d.begun.tid.seq && at_most c.vector d.vector)
+
+-- it isn't the transaction itself, or doesn't update, or isn't in its snapshot
+abbrev pub stays_out : Begun → Committed → Bool
+stays_out t c = not (tid_eq c.begun.tid t.tid) || not (is_stamped c && at_most c.vector t.snapshot)
+
+abbrev pub sessions_ascend : List Committed → Bool
+sessions_ascend cs = list_all (λ c. list_all (λ d. ascend_by_number c d) cs) cs
+
+abbrev pub all_stay_out : List Committed → Begun → Bool
+all_stay_out cs t = list_all (λ c. stays_out t c) cs
+
+abbrev pub ascends : History → Bool
+ascends h =
+    sessions_ascend h.committed
+    && (list_all (λ (d : Committed). all_stay_out h.committed d.begun) h.committed && list_all (λ t. all_stay_out h.committed t) h.begun)
+
+-- ---- at places
+
+-- the transactions at these places
+abbrev pub found_at : List Committed → List ℕ → List (Option Committed)
+found_at cs is = map (λ i. slice_get cs i) is
+
+-- whether the transaction found passes
+abbrev pub passes : (Committed → Bool) → Option Committed → Bool
+passes test None = false
+passes test (Some c) = test c
+
+-- its number
+abbrev pub number_of : Option Committed → ℕ
+number_of None = 0
+number_of (Some c) = c.number
+
+-- the greatest of those that pass
+abbrev pub greatest_found : (Committed → Bool) → List (Option Committed) → ℕ
+greatest_found test [] = 0
+greatest_found test (o ∷ os) = if passes test o then max (number_of o) (greatest_found test os) else greatest_found test os
+
+-- where the later one passes so does the earlier one, whose number is not greater
+pub record StandsFirst (test : Committed → Bool) (o p : Option Committed) : Type 0 where
+  pub passing : passes test p ≡ true → passes test o ≡ true
+  pub numbers : number_of o ≤ number_of p
+
+-- those that pass come first, and their numbers ascend
+abbrev pub PassFirst : (Committed → Bool) → List (Option Committed) → Type 0
+PassFirst test os = AllLater (StandsFirst test) os

@@ -1,11 +1,12 @@
 //! The transactions that were committed.
-ghost use Rattle.std.specs.Prelude.{◌≡◌, ◌+◌, ◌++◌, ◌∷◌, [], IfOk, OnOk, slice_get};
+ghost use Rattle.std.specs.Prelude.{◌≡◌, ◌+◌, ◌++◌, ◌∷◌, [], ◌&&◌, true, Some, map, filter, max, IfOk, OnOk, slice_get};
 ghost use Rattle.us_model.specs.Executions.{committed_in};
+ghost use Rattle.us_order.specs.Ascending.{SessionsAscend};
 ghost use Rattle.us_order.specs.Pasts.{direct_count};
-ghost use Rattle.us_world.specs.Found.{is_leading, leading_at, up_to_last};
+ghost use Rattle.us_world.specs.Found.{group_of, is_in_group, greatest, greatest_found, found_at, passes, number_of, is_earlier, is_earlier_of, is_shown, is_shown_of, IsSearchable, PassFirst};
 
 use crate::beginnings::Beginning;
-use crate::past::leads_to;
+use crate::past::{is_stamped, same_session};
 use std::alloc::Global;
 use std::marker::Model;
 use us_base::Vector;
@@ -30,24 +31,30 @@ impl Model for Commit {
     ghost view = { λ a. record { begun = a.begun; number = a.number; vector = a.vector; ops = a.ops } };
 }
 
-/// The committed transactions, in order of decision, found by their sessions.
+/// The transactions of a session that update, or those that don't.
+#[derive(Clone, Copy, PartialEq, Eq, Hash)]
+pub struct Group {
+    pub session: SessionName,
+    pub updates: bool,
+}
+
+/// The committed transactions, in order of decision, found by their groups.
 #[derive(Drop)]
 pub struct Commits {
     list: Vec<Commit>,
-    sessions: Places<SessionName>,
+    groups: Places<Group>,
 }
 
 impl Model for Commits {
     ghost use Rattle.std.specs.Prelude.{List};
     ghost use Rattle.us_model.specs.Executions.{Committed};
+    ghost use Rattle.us_world.specs.Found.{IsIndexed};
 
     ghost Value = { List Committed };
 
-    ghost use Rattle.us_world.specs.Found.{AreNumbered};
-
     ghost view = { λ a. a.list.items };
 
-    ghost invariant = { λ a. AreNumbered a.list.items a.sessions };
+    ghost invariant = { λ a. IsIndexed a.list.items a.groups };
 }
 
 impl Commits {
@@ -56,7 +63,7 @@ impl Commits {
     {
         Commits {
             list: Vec::new(alloc),
-            sessions: Places::new(alloc),
+            groups: Places::new(alloc),
         }
     }
 
@@ -70,21 +77,26 @@ impl Commits {
     pub fn next_number(&self, session: &SessionName) -> Result<u64, Memory>
         ensures { IfOk result (λ number. number ≡ committed_in session.now self.now + 1) }
     {
-        let places = self.sessions.of(session);
-        match (places.len() as u64).checked_add(1) {
-            Some(next) => Ok(next),
+        let updating = self.places(session, true).len() as u64;
+        let reading = self.places(session, false).len() as u64;
+        match updating.checked_add(reading) {
+            Some(count) => after(count),
             None => Err(Memory),
         }
     }
 
-    /// The greatest number of a transaction of the session that leads to this one.
-    ///
-    /// The session's transactions are looked at from the last one back.
+    /// The greatest number of a transaction of the session that leads to this one. It is searched for by halves, since in
+    /// each session those that lead come first.
     pub fn count_before(&self, session: &SessionName, transaction: &Beginning) -> u64
+        requires { IsSearchable self.now transaction.now }
         ensures { result ≡ direct_count session.now transaction.now self.now }
     {
-        let places = self.sessions.of(session);
-        count_at(self.list.as_slice(), places, transaction) as u64
+        let shown = self.last_shown(session, &transaction.snapshot);
+        if same_session(session, &transaction.session) {
+            greater(self.last_earlier(session, transaction.tid.seq), shown)
+        } else {
+            shown
+        }
     }
 
     /// Adds a committed transaction at the end, which is the next of its session.
@@ -92,9 +104,9 @@ impl Commits {
         requires { commit.number ≡ committed_in commit.begun.session self.old + 1 }
         ensures { OnOk result (self.new ≡ self.old ++ commit ∷ []) }
     {
-        let session = session_of(&commit);
+        let group = group_of(&commit);
         self.list.push(commit)?;
-        match self.sessions.push(session) {
+        match self.groups.push(group) {
             Ok(()) => Ok(()),
             Err(Memory) => {
                 self.list.pop();
@@ -102,32 +114,133 @@ impl Commits {
             }
         }
     }
-}
 
-fn session_of(commit: &Commit) -> SessionName
-    ensures { result ≡ commit.now.begun.session }
-{
-    commit.begun.session
-}
-
-/// How many of these places there are up to the last one whose transaction leads to this one. They are looked at
-/// from the last one back.
-fn count_at(list: &[Commit], places: &[usize], transaction: &Beginning) -> usize
-    ensures { result ≡ up_to_last (leading_at transaction.now list.now places.now) }
-{
-    let mut at = places.len();
-    while at > 0 {
-        if is_leading(list, places[at - 1], transaction) {
-            return at;
-        }
-        at -= 1;
+    /// The places of a session's transactions that update, or of those that don't.
+    fn places(&self, session: &SessionName, updates: bool) -> &[usize]
+        ensures { found_at self.now result.now ≡ map Some (filter (is_in_group session.now updates) self.now) }
+    {
+        self.groups.of(&Group {
+            session: *session,
+            updates,
+        })
     }
-    0
+
+    /// The greatest number of a transaction of the session that was begun before the one of this number.
+    fn last_earlier(&self, session: &SessionName, seq: u64) -> u64
+        requires { SessionsAscend self.now }
+        ensures { result ≡ greatest (is_earlier_of session.now seq) self.now }
+    {
+        greater(
+            self.last_earlier_in(session, true, seq),
+            self.last_earlier_in(session, false, seq),
+        )
+    }
+
+    /// Of those that update, or of those that don't.
+    fn last_earlier_in(&self, session: &SessionName, updates: bool, seq: u64) -> u64
+        requires { SessionsAscend self.now }
+        ensures { result ≡ greatest (λ c. is_in_group session.now updates c && is_earlier seq c) self.now }
+    {
+        earlier_at(self.list.as_slice(), self.places(session, updates), seq)
+    }
+
+    /// The greatest number of a transaction of the session that updates and is in the snapshot.
+    fn last_shown(&self, session: &SessionName, snapshot: &Vector) -> u64
+        requires { SessionsAscend self.now }
+        ensures { result ≡ greatest (is_shown_of session.now snapshot.now) self.now }
+    {
+        shown_at(self.list.as_slice(), self.places(session, true), snapshot)
+    }
 }
 
-/// Whether the transaction at this place leads to another.
-fn is_leading(list: &[Commit], place: usize, transaction: &Beginning) -> bool
-    ensures { result ≡ is_leading transaction.now (slice_get list.now place) }
+fn group_of(commit: &Commit) -> Group
+    ensures { result ≡ group_of commit.now }
 {
-    place < list.len() && leads_to(&list[place], transaction)
+    Group {
+        session: commit.begun.session,
+        updates: is_stamped(commit),
+    }
+}
+
+/// The next number. One that doesn't fit its type counts as want of memory.
+fn after(count: u64) -> Result<u64, Memory>
+    ensures { IfOk result (λ next. next ≡ count + 1) }
+{
+    match count.checked_add(1) {
+        Some(next) => Ok(next),
+        None => Err(Memory),
+    }
+}
+
+fn greater(a: u64, b: u64) -> u64
+    ensures { result ≡ max a b }
+{
+    if a < b { b } else { a }
+}
+
+/// The greatest number at these places of a transaction that was begun before the one of this number.
+fn earlier_at(list: &[Commit], places: &[usize], seq: u64) -> u64
+    requires { PassFirst (is_earlier seq) (found_at list.now places.now) }
+    ensures { result ≡ greatest_found (is_earlier seq) (found_at list.now places.now) }
+{
+    let count = places.partition_point(|place| is_earlier(list, *place, seq));
+    if count == 0 {
+        return 0;
+    }
+    number_at(list, places[count - 1])
+}
+
+/// The greatest number at these places of a transaction in the snapshot.
+fn shown_at(list: &[Commit], places: &[usize], snapshot: &Vector) -> u64
+    requires { PassFirst (is_shown snapshot.now) (found_at list.now places.now) }
+    ensures { result ≡ greatest_found (is_shown snapshot.now) (found_at list.now places.now) }
+{
+    let count = places.partition_point(|place| is_shown(list, *place, snapshot));
+    if count == 0 {
+        return 0;
+    }
+    number_at(list, places[count - 1])
+}
+
+/// Whether the transaction at this place was begun before the one of this number.
+fn is_earlier(list: &[Commit], place: usize, seq: u64) -> bool
+    ensures { result ≡ passes (is_earlier seq) (slice_get list.now place) }
+{
+    place < list.len() && begun_before(&list[place], seq)
+}
+
+fn begun_before(commit: &Commit, seq: u64) -> bool
+    ensures { result ≡ is_earlier seq commit.now }
+{
+    commit.begun.tid.seq < seq
+}
+
+/// Whether the transaction at this place is in the snapshot.
+fn is_shown(list: &[Commit], place: usize, snapshot: &Vector) -> bool
+    ensures { result ≡ passes (is_shown snapshot.now) (slice_get list.now place) }
+{
+    place < list.len() && is_within(&list[place], snapshot)
+}
+
+fn is_within(commit: &Commit, snapshot: &Vector) -> bool
+    ensures { result ≡ is_shown snapshot.now commit.now }
+{
+    commit.vector.at_most(snapshot)
+}
+
+/// The number of the transaction at this place, and 0 where there is none.
+fn number_at(list: &[Commit], place: usize) -> u64
+    ensures { result ≡ number_of (slice_get list.now place) }
+{
+    if place < list.len() {
+        number_of(&list[place])
+    } else {
+        0
+    }
+}
+
+fn number_of(commit: &Commit) -> u64
+    ensures { result ≡ commit.now.number }
+{
+    commit.number
 }

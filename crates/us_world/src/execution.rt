@@ -1,8 +1,11 @@
 //! The execution that a history tells.
 ghost use Rattle.std.specs.Prelude.{◌≡◌, IfOk, map};
 ghost use Rattle.us_model.specs.Executions.{Committed, is_committed, sessions_of};
+ghost use Rattle.us_kind.specs.Words.{In};
+ghost use Rattle.us_order.specs.Ascending.{Ascends};
 ghost use Rattle.us_order.specs.Pasts.{direct_entry_of, direct_entries, direct_loose, direct_loose_one, direct_execution};
 ghost use Rattle.us_world.specs.Direct.{reported};
+ghost use Rattle.us_world.specs.Found.{IsSearchable};
 
 use crate::beginnings::Beginning;
 use crate::commits::{Commit, Commits};
@@ -22,7 +25,8 @@ fn entry_of(
     committed: &Commits,
     commit: &Commit,
 ) -> Result<Entry, Memory>
-    requires { sessions.now ≡ sessions_of committed.now }
+    requires sessions { sessions.now ≡ sessions_of committed.now }
+    requires searchable { IsSearchable committed.now commit.now.begun }
     ensures { IfOk result (λ entry. entry ≡ direct_entry_of committed.now commit.now) }
 {
     Ok(Entry {
@@ -53,7 +57,8 @@ fn entries_of(
     committed: &Commits,
     order: &[&Commit],
 ) -> Result<Items<Entry>, Memory>
-    requires { sessions.now ≡ sessions_of committed.now }
+    requires sessions { sessions.now ≡ sessions_of committed.now }
+    requires searchable { (c : Committed) → In c (map (λ c. c.now) order.now) → IsSearchable committed.now c.begun }
     ensures { IfOk result (λ entries. entries ≡ direct_entries committed.now (map (λ c. c.now) order.now)) }
 {
     let mut entries = Items::new(alloc);
@@ -76,8 +81,9 @@ fn committed_tids(alloc: Global, committed: &[Commit]) -> Result<Listed<Tid>, Me
 
 impl History {
     /// The execution so far: the committed transactions in arbitration order, and the others in order of
-    /// beginning, each with its operations and its past.
+    /// beginning, each with its operations and its past. Every run's history ascends (`us_order`, `histories_ascend`).
     pub fn execution(&self, alloc: Global) -> Result<Execution, Memory>
+        requires { Ascends self.now }
         ensures { IfOk result (λ execution. execution ≡ direct_execution self.now) }
     {
         let sessions = sessions_of(alloc, self.committed())?;
@@ -114,7 +120,8 @@ impl History {
 
     /// The transactions that aren't committed.
     fn loose(&self, alloc: Global, sessions: &[SessionName]) -> Result<Items<Loose>, Memory>
-        requires { sessions.now ≡ sessions_of self.now.committed }
+        requires sessions { sessions.now ≡ sessions_of self.now.committed }
+        requires ascends { Ascends self.now }
         ensures { IfOk result (λ loose. loose ≡ direct_loose self.now self.now.begun) }
     {
         let committed = committed_tids(alloc, self.committed())?;
@@ -135,7 +142,8 @@ impl History {
         sessions: &[SessionName],
         beginning: &Beginning,
     ) -> Result<Loose, Memory>
-        requires { sessions.now ≡ sessions_of self.now.committed }
+        requires sessions { sessions.now ≡ sessions_of self.now.committed }
+        requires searchable { IsSearchable self.now.committed beginning.now }
         ensures { IfOk result (λ loose. loose ≡ direct_loose_one self.now beginning.now) }
     {
         Ok(Loose {

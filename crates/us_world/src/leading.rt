@@ -6,7 +6,9 @@ ghost use Rattle.us_world.specs.Lines.{AllBuilt, HasReached, fault_at, IsReportO
 use crate::{LinesFault, Numbered, World, WorldFault};
 use std::alloc::Global;
 use us_kind::Memory;
-use us_order::{every_run_is_por, executions_are_direct};
+use us_order::{
+    every_run_is_por, executions_are_direct, executions_are_well_formed, histories_ascend,
+};
 use us_report::Report;
 use us_value::Catalog;
 
@@ -47,7 +49,8 @@ pub fn perform_lines(alloc: Global, catalog: Catalog, lines: &[Numbered]) -> Res
     Ok(())
 }
 
-/// The report of the world that the lines lead to, from the opening one with these spaces on. Its execution is consistent.
+/// The report of the world that the lines lead to, from the opening one with these spaces on. Its execution is well formed
+/// and consistent.
 ///
 /// A limit is that of the first event that takes a count past its number, with the number of its line.
 pub fn report_of_lines(
@@ -61,7 +64,9 @@ pub fn report_of_lines(
     ensures limit { IfErr result (λ fault. IsLimitOf catalog lines.now fault) }
 {
     executions_are_direct();
+    executions_are_well_formed();
     every_run_is_por();
+    histories_ascend();
     let world = reached(alloc, catalog, lines)?;
     Ok(world.report(alloc)?)
 }

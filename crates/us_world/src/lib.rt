@@ -1,6 +1,7 @@
 //! A world: sites and partitions in one process, and the execution that its run comes to.
 #![tactic(auto)]
 
+mod ascending;
 mod beginnings;
 mod commits;
 mod execution;

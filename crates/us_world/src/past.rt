@@ -1,10 +1,10 @@
 //! What is before a transaction, counted per session.
-ghost use Rattle.std.specs.Prelude.{◌≡◌, ◌&&◌, IfOk};
-ghost use Rattle.std.specs.List.{list_any};
+ghost use Rattle.std.specs.Prelude.{◌≡◌, IfOk};
 ghost use Rattle.us_exec.specs.Past.{session_eq};
-ghost use Rattle.us_model.specs.Executions.{is_stamped, leads};
+ghost use Rattle.us_model.specs.Executions.{is_stamped};
 ghost use Rattle.us_value.specs.Values.{is_update};
 ghost use Rattle.us_order.specs.Pasts.{direct_counts};
+ghost use Rattle.us_world.specs.Found.{IsSearchable};
 
 use crate::beginnings::Beginning;
 use crate::commits::{Commit, Commits};
@@ -19,6 +19,7 @@ pub fn past_of(
     committed: &Commits,
     transaction: &Beginning,
 ) -> Result<Items<Count>, Memory>
+    requires { IsSearchable committed.now transaction.now }
     ensures { IfOk result (λ past. past ≡ direct_counts committed.now transaction.now sessions.now) }
 {
     let mut past = Items::new(alloc);
@@ -32,18 +33,6 @@ pub fn past_of(
         }
     }
     Ok(past)
-}
-
-/// A committed transaction is before another of its session, or updates and is in its snapshot.
-pub fn leads_to(commit: &Commit, transaction: &Beginning) -> bool
-    ensures { result ≡ leads commit.now transaction.now }
-{
-    if commit.begun.tid.same(&transaction.tid) {
-        return false;
-    }
-    let earlier = same_session(&commit.begun.session, &transaction.session)
-        && commit.begun.tid.seq < transaction.tid.seq;
-    earlier || (is_stamped(commit) && commit.vector.at_most(&transaction.snapshot))
 }
 
 fn updates(done: &Done) -> bool

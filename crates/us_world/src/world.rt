@@ -2,6 +2,7 @@
 ghost use Rattle.std.specs.Prelude.{◌≡◌, ◌+◌, ◌++◌, ◌<◌, ◌^◌, true, false, length, map, IfOk, IfErr, IfSome, IfNone, OnOk};
 ghost use Rattle.us_model.specs.Worlds.{start, Flushes};
 ghost use Rattle.us_model.specs.Executions.{noted_all};
+ghost use Rattle.us_order.specs.Ascending.{Ascends};
 ghost use Rattle.us_world.specs.Kept.{AllMarked, StandsFor, unmarked, after_event, after_at, passed_by, is_due, is_due_at, NoneDue, HasSkipped, HasCome, IsDelivered, LimitSays};
 ghost use Rattle.us_world.specs.Limits.{Delivers, is_opening, is_beginning, opened_in, begun_in};
 ghost use Rattle.us_world.specs.Lines.{waiting, IsBuilt, GoesBy, StoppedBy, IsDelivery, IsPerformed, IsStopped, report_of_kept};
@@ -362,8 +363,9 @@ impl World {
         }
     }
 
-    /// What the run so far came to.
+    /// What the run so far came to. The history of every world that lines lead to ascends (`us_order`, `histories_ascend`).
     pub fn report(&self, alloc: Global) -> Result<Report, Memory>
+        requires { Ascends self.now.history }
         ensures { IfOk result (λ report. report ≡ report_of_kept self.now) }
     {
         let waits = self.site.waits(alloc)?;

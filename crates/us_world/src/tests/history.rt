@@ -122,6 +122,7 @@ fn worked_history(alloc: Global) -> Result<History, Memory> {
 fn a_history_tells_its_execution(rt: HostRuntime) -> Result<(), Fail> {
     let alloc = rt.alloc();
     let history = worked_history(alloc)?;
+    assert!(rt; history.ascends());
     let report = Report {
         execution: history.execution(alloc)?,
         refused: history.refusals(alloc)?,

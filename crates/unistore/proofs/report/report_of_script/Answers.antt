@@ -8,7 +8,7 @@ use Rattle.unistore.specs.Report.{IsReportOf}
 use Rattle.unistore.proofs.report.report_of_script.Goals as goal
 
 both : (script : Script) (result : Result Report LinesFault) → IfOk result (IsWorldReport script.catalog script.lines) → IfOk result (λ report. IsConsistent report.execution) → IfOk result (IsReportOf script)
-both script (Ok report) is consistent = record { is = is; consistent = consistent }
+both script (Ok report) is consistent = record { is = is; execution = consistent }
 both script (Err e) is consistent = tt
 
 pub returns-clause-report : goal.returns-clause-report

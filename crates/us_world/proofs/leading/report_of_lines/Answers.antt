@@ -1,4 +1,4 @@
-use Rattle.us_world.proofs.Lines.{report_is, report_por}
+use Rattle.us_world.proofs.Lines.{report_is, report_consistent, history_ascends}
 use Rattle.us_world.proofs.leading.report_of_lines.Goals as goal
 
 pub returns-clause-report : goal.returns-clause-report
@@ -7,5 +7,8 @@ returns-clause-report c =
 
 pub returns-clause-consistent : goal.returns-clause-consistent
 returns-clause-consistent c =
-    report_por c.args.catalog c.args.lines.now c.in_ok-report.field-0 c.every_run_is_por.ensures
+    report_consistent c.args.catalog c.args.lines.now c.in_ok-report.field-0 c.every_run_is_por.ensures c.executions_are_well_formed.ensures
     (report_is c.args.catalog c.args.lines.now c.in_ok-world.world c.in_ok-report.field-0 c.in_ok-world.ensures.reached c.executions_are_direct.ensures c.in_ok-report.ensures)
+
+pub report-requires : goal.report-requires
+report-requires c = history_ascends c.args.catalog c.args.lines.now c.in_ok-world.world c.in_ok-world.ensures.reached c.histories_ascend.ensures

@@ -1,14 +1,22 @@
-use Rattle.std.proofs.Common.{◌∙◌, ap}
+use Rattle.std.proofs.Common.{◌≡◌, ◌∙◌, sym, subst}
+use Rattle.us_model.specs.Executions.{Begun}
+use Rattle.us_order.specs.Ascending.{IsNotInItsOwn}
 use Rattle.us_order.specs.Pasts.{direct_count}
-use Rattle.us_world.specs.Found.{leading_at, up_to_last}
-use Rattle.us_world.proofs.Counted.{last_counts}
+use Rattle.us_world.proofs.Searched.{direct_own, direct_other}
 use Rattle.us_world.proofs.commits.Commits.count_before.Goals as goal
 
-pub returns : goal.returns
-returns c =
+pub returns-then-same_session : goal.returns-then-same_session
+returns-then-same_session c =
     let session = c.args.session.now in
-    let transaction = c.args.transaction.now in
-    let places = c.of-places.result.now in
-    last_counts session transaction c.self.inside.list.items c.self.inside.sessions places c.count_at.result c.self.invariant c.of-places.ensures
-    (c.count_at.ensures ∙ ap (λ cs. up_to_last (leading_at transaction cs places)) c.as_slice.ensures.value)
-    ∙ ap (direct_count session transaction) c.self.view_is
+    let cs = c.args.self.now in
+    subst (λ (t : Begun). IsNotInItsOwn cs t → c.greater.result ≡ direct_count session t cs) c.transaction.view_is
+    (λ others. c.greater.ensures ∙ direct_own session _ cs c.last_earlier.result c.last_shown-shown.result others (sym c.if-same_session.ensures) c.last_earlier.ensures c.last_shown-shown.ensures)
+    c.requires.others
+
+pub returns-else-same_session : goal.returns-else-same_session
+returns-else-same_session c =
+    let session = c.args.session.now in
+    let cs = c.args.self.now in
+    subst (λ (t : Begun). IsNotInItsOwn cs t → c.last_shown-shown.result ≡ direct_count session t cs) c.transaction.view_is
+    (λ others. direct_other session _ cs c.last_shown-shown.result others (sym c.if-same_session.ensures) c.last_shown-shown.ensures)
+    c.requires.others

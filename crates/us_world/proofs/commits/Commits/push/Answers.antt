@@ -9,5 +9,5 @@ invariant_of-self-in-Ok c =
     let number : new.number ≡ committed_in new.begun.session c.self.inside.list.items + 1 =
     c.requires ∙ ap (λ cs. committed_in new.begun.session cs + 1) (sym c.self.view_is)
     in
-    numbered_more c.self.inside.list.items c.push.new.self.items c.self.inside.sessions c.push-2.new.self new c.self.invariant number c.in_ok-push.ensures.items
-    (c.in-Ok.ensures.ok ∙ ap (λ s. c.self.inside.sessions ++ s ∷ []) c.session_of-session.ensures)
+    numbered_more c.self.inside.list.items c.push.new.self.items c.self.inside.groups c.push-2.new.self new c.self.invariant number c.in_ok-push.ensures.items
+    (c.in-Ok.ensures.ok ∙ ap (λ g. c.self.inside.groups ++ g ∷ []) c.group_of-group.ensures)

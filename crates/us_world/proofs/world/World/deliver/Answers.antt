@@ -1,5 +1,4 @@
-use Rattle.std.proofs.Common.{◌≡◌, ◌+◌, ◌-◌, Some, arith}
-use Rattle.std.specs.List.{slice_get}
+use Rattle.std.proofs.Common.{◌≡◌, ◌+◌, ◌-◌, arith}
 use Rattle.us_world.specs.Kept.{after_delivery}
 use Rattle.us_world.specs.Lines.{IsDelivery}
 use Rattle.us_world.proofs.Flushing.{one_delivery}

@@ -1,4 +1,4 @@
-use Rattle.std.proofs.Common.{◌≡◌, ◌-◌, ◌≤◌, false}
+use Rattle.std.proofs.Common.{◌≡◌, ◌-◌, false}
 use Rattle.us_world.specs.Limits.{Delivers}
 use Rattle.us_world.specs.Lines.{GoesBy}
 use Rattle.us_world.proofs.world.World.flush.Given as goal

@@ -1,0 +1,53 @@
+-- A history that passes the test ascends.
+use Rattle.std.proofs.Common.{◌≡◌, ◌∙◌, inl, inr, ◌<◌, List, [], ◌∷◌, Bool, true, false, sym, ap, true≢false, arith}
+use Rattle.std.specs.Prelude.{◌&&◌, ◌||◌, not, nat_lt}
+use Rattle.std.specs.List.{list_all}
+use Rattle.std.proofs.lemmas.Bool.{and_parts, lt-ltb}
+use Rattle.std.proofs.lemmas.Bool.Decides.{nat_tests}
+use Rattle.us_kind.specs.Words.{In, tid_eq}
+use Rattle.us_kind.proofs.TestLemmas.{tid_eq-same}
+use Rattle.us_base.specs.Vector.{at_most}
+use Rattle.us_exec.specs.Past.{session_eq}
+use Rattle.us_model.specs.Executions.{Begun, Committed, History, is_stamped}
+use Rattle.us_order.specs.Ascending.{Ascends, IsNotInItsOwn}
+use Rattle.us_order.proofs.Pasts.{session_eq-same}
+use Rattle.us_world.specs.Found.{ascend_by_number, stays_out, all_stay_out, ascends}
+
+-- one of all that pass
+all-pass : {X : Type 0} (test : X → Bool) (xs : List X) (x : X) → list_all test xs ≡ true → In x xs → test x ≡ true
+all-pass test [] x h i = absurd i
+all-pass test (y ∷ xs) x h (inl e) = sym (ap test e) ∙ (and_parts _ _ h).0
+all-pass test (y ∷ xs) x h (inr i) = all-pass test xs x (and_parts _ _ h).1 i
+
+-- two of a session
+both-ascend : (c d : Committed) → ascend_by_number c d ≡ true → c.begun.session ≡ d.begun.session → c.number < d.number → (c.begun.tid.seq < d.begun.tid.seq) × (at_most c.vector d.vector ≡ true)
+both-ascend c d h same less = on (session_eq c.begun.session d.begun.session) (ap (λ s. session_eq s d.begun.session) same ∙ session_eq-same d.begun.session) (nat_lt c.number d.number) (lt-ltb _ _ less) h
+  where
+    below : (a b : _) → nat_lt a b ≡ true → a < b
+    below a b e = grind (arith, nat_tests)
+
+    on : (s : Bool) → s ≡ true → (n : Bool) → n ≡ true → (not (s && n) || (nat_lt c.begun.tid.seq d.begun.tid.seq && at_most c.vector d.vector)) ≡ true → (c.begun.tid.seq < d.begun.tid.seq) × (at_most c.vector d.vector ≡ true)
+    on true e true f h = let p = and_parts _ _ h in (below _ _ p.0, p.1)
+    on true e false f h = absurd (true≢false (sym f))
+    on false e n f h = absurd (true≢false (sym e))
+
+-- none is in its own snapshot
+stay-out : (cs : List Committed) (t : Begun) → all_stay_out cs t ≡ true → IsNotInItsOwn cs t
+stay-out cs t h c i stamped below same = on (tid_eq c.begun.tid t.tid) (ap (λ x. tid_eq x t.tid) same ∙ tid_eq-same t.tid) (is_stamped c) stamped (at_most c.vector t.snapshot) below (all-pass (λ x. stays_out t x) cs c h i)
+  where
+    on : (a : Bool) → a ≡ true → (u : Bool) → u ≡ true → (m : Bool) → m ≡ true → (not a || not (u && m)) ≡ true → ⊥
+    on true e true f true g h = true≢false (sym h)
+    on false e u f m g h = true≢false (sym e)
+    on true e false f m g h = true≢false (sym f)
+    on true e true f false g h = true≢false (sym g)
+
+pub ascends-holds : (h : History) → ascends h ≡ true → Ascends h
+ascends-holds h e =
+    let p = and_parts _ _ e in
+    let q = and_parts _ _ p.1 in
+    let pair = λ (c d : Committed) (i : In c h.committed) (j : In d h.committed). both-ascend c d (all-pass (λ x. ascend_by_number c x) h.committed d (all-pass (λ x. list_all (λ y. ascend_by_number x y) h.committed) h.committed c p.0 i) j) in
+    record {
+      sessions = record { seqs = λ c d i j same less. (pair c d i j same less).0; vectors = λ c d i j same less. (pair c d i j same less).1 };
+      committed = λ d i. stay-out h.committed d.begun (all-pass (λ (x : Committed). all_stay_out h.committed x.begun) h.committed d q.0 i);
+      begun = λ t i. stay-out h.committed t (all-pass (λ x. all_stay_out h.committed x) h.begun t q.1 i);
+    }
