@@ -1,5 +1,5 @@
 -- What follows from the answers, status by status.
-use Rattle.std.proofs.Common.{◌≡◌, ℕ, ◌⊎◌, inl, inr, Bool, List, Option, Some, None, refl, sym, ap, subst}
+use Rattle.std.proofs.Common.{◌≡◌, ℕ, ◌⊎◌, inl, inr, Bool, List, Option, Some, None, refl, sym, subst}
 use Rattle.unistore.specs.declared.schedule.Script.{Script}
 use Rattle.unistore.specs.declared.form.Form.{Form}
 use Rattle.unistore.specs.declared.form.Form.TheVariants.{Replay}
@@ -11,7 +11,7 @@ use Rattle.unistore.specs.declared.status.LimitKind.TheVariants.{Text}
 use Rattle.unistore.specs.declared.status.Reason.{Reason}
 use Rattle.unistore.specs.declared.status.Status.{Status}
 use Rattle.unistore.specs.declared.status.Status.TheVariants.{Done, Words, Input, ReadFault, WriteFault, LinkFault, Memory, Limit}
-use Rattle.unistore.specs.Answers.{SourceState, SinkState, Came, Performs, Performed, Passed, PassesLimit, ComesBehind, Refuses, RefusesInput, RefusesLength, Replays, AnswersForm, is_short, IsRead, IsDone, IsRefusedAt, IsRefusedInput, IfInput, IsPassedBy, IsLimited, IfLimit}
+use Rattle.unistore.specs.Answers.{SourceState, SinkState, Came, Performs, PassesLimit, RefusesInput, RefusesLength, AnswersForm, is_short, IsRead, IsDone, IsRefusedAt, IsRefusedInput, IfInput, IsLimited, IfLimit}
 use Rattle.unistore.specs.Schedule.{schedule_of}
 use Rattle.us_edge.specs.Faults.{Rose}
 

@@ -1,9 +1,10 @@
 -- The report of what a text asks for, and what holds of it.
 use Rattle.std.specs.Prelude.{ℕ}
+use Rattle.us_exec.specs.Consistency.{IsSound}
 use Rattle.us_report.specs.declared.report.Report.{Report}
 use Rattle.us_world.specs.declared.fault.LinesFault.{LinesFault}
 use Rattle.us_world.specs.declared.fault.WorldFault.{WorldFault}
-use Rattle.us_world.specs.Lines.{LeadOn as LinesLeadOn, PassAt as LinesPassAt, IsLimitOf as IsLimitOfLines, IsReportOf as IsWorldReport, IsConsistent}
+use Rattle.us_world.specs.Lines.{LeadOn as LinesLeadOn, PassAt as LinesPassAt, IsLimitOf as IsLimitOfLines, IsReportOf as IsWorldReport}
 use Rattle.unistore.specs.declared.schedule.Script.{Script}
 
 -- the lines lead, from the opening world with the spaces on, to some world
@@ -22,4 +23,4 @@ IsLimitOf script e = IsLimitOfLines script.catalog script.lines e
 -- formed, and consistent whatever conflicts are declared
 pub record IsReportOf (script : Script) (report : Report) : Type 0 where
   pub is : IsWorldReport script.catalog script.lines report
-  pub execution : IsConsistent report.execution
+  pub execution : IsSound report.execution

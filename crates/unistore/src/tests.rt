@@ -432,11 +432,11 @@ fn short_reports(rt: HostRuntime) -> Result<(), Fail> {
     Ok(())
 }
 
-/// So many sessions are opened, and then come more lines.
-fn opens(alloc: Global, count: usize, more: &str) -> Result<String, Fail> {
+/// A line comes so many times, and then come more lines.
+fn repeated(alloc: Global, line: &str, count: usize, more: &str) -> Result<String, Fail> {
     let mut text = String::from_str(alloc, "---\n")?;
     for _ in 0..count {
-        text.push_str("open 1 1\n")?;
+        text.push_str(line)?;
     }
     text.push_str(more)?;
     Ok(text)
@@ -469,7 +469,29 @@ fn limits_and_refusals(rt: HostRuntime) -> Result<(), Fail> {
         ),
         (512, "\n# open 1 1\ndeliver 1\n", Status::Done, NOTHING),
     ] {
-        let input = opens(rt.alloc(), count, more)?;
+        let input = repeated(rt.alloc(), "open 1 1\n", count, more)?;
+        let ended = answered(rt.alloc(), "replay", input.as_str())?;
+        assert_eq!(rt; ended.status, status, "{want}");
+        assert_eq!(rt; ended.written.as_slice(), want.as_bytes());
+    }
+    Ok(())
+}
+
+#[test]
+fn the_limit_of_events(rt: HostRuntime) -> Result<(), Fail> {
+    let passed = Status::Limit {
+        which: LimitKind::Events,
+        line: 1_000_002,
+    };
+    for (more, status, want) in [
+        ("", Status::Done, NOTHING),
+        (
+            "close 1 1 1\n",
+            passed,
+            "refused limit events line 1000002\n",
+        ),
+    ] {
+        let input = repeated(rt.alloc(), "close 1 1 1\n", 1_000_000, more)?;
         let ended = answered(rt.alloc(), "replay", input.as_str())?;
         assert_eq!(rt; ended.status, status, "{want}");
         assert_eq!(rt; ended.written.as_slice(), want.as_bytes());

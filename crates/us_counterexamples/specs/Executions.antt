@@ -7,9 +7,11 @@ use Rattle.us_value.specs.declared.operation.Answer.TheVariants as answer
 use Rattle.us_exec.specs.declared.SessionName.{SessionName}
 use Rattle.us_exec.specs.declared.Count.{Count}
 use Rattle.us_exec.specs.declared.Entry.{Entry}
+use Rattle.us_exec.specs.declared.Loose.{Loose}
+use Rattle.us_exec.specs.declared.LooseEnd.TheVariants as end
 use Rattle.us_exec.specs.declared.Execution.{Execution}
 use Rattle.us_exec.specs.Consistency.{IsClosed, IsValued, IsOrdered}
-use Rattle.us_order.specs.WellFormed.{IsWellFormed}
+use Rattle.us_exec.specs.WellFormed.{IsWellFormed}
 
 abbrev pub session : SessionName
 session = record { site = 1; coord = 1; number = 1 }
@@ -64,15 +66,48 @@ StaleRead = IsValued (executed (writer false ∷ reader false first_counted answ
 abbrev pub OverlookedConflict : Type 0
 OverlookedConflict = IsOrdered (λ a b. true) (executed (writer true ∷ reader true [] answer.Nothing ∷ [])) → ⊥
 
+-- what the second answers where the first is before it
+abbrev pub written : Answer
+written = answer.Value (120 ∷ [])
+
 -- the second has the number of the first
 abbrev pub OneNumber : Type 0
 OneNumber = IsWellFormed (executed (writer false ∷ (record (reader false [] answer.Nothing) { number = 1 }) ∷ [])) → ⊥
 
--- the second has the name of the first
+-- the second is of another session, and has the name of the first
+abbrev pub other_session : SessionName
+other_session = record { site = 1; coord = 1; number = 2 }
+
 abbrev pub OneName : Type 0
-OneName = IsWellFormed (executed (writer false ∷ (record (reader false first_counted answer.Nothing) { tid = (writer false).tid }) ∷ [])) → ⊥
+OneName =
+    IsWellFormed
+    (executed (writer false ∷ (record (reader false [] answer.Nothing) { tid = (writer false).tid; session = other_session; number = 1 }) ∷ []))
+    → ⊥
 
 -- the second was begun before the first
 abbrev pub BegunBefore : Type 0
-BegunBefore =
-    IsWellFormed (executed (writer false ∷ (record (reader false first_counted answer.Nothing) { tid = record { site = 1; coord = 1; seq = 0 } }) ∷ [])) → ⊥
+BegunBefore = IsWellFormed (executed (writer false ∷ (record (reader false first_counted written) { tid = record { site = 1; coord = 1; seq = 0 } }) ∷ [])) → ⊥
+
+-- the second is of another coordinator than its session
+abbrev pub OtherCoordinator : Type 0
+OtherCoordinator = IsWellFormed (executed (writer false ∷ (record (reader false first_counted written) { tid = record { site = 1; coord = 2; seq = 2 } }) ∷ [])) → ⊥
+
+-- the second's past names the session twice
+abbrev pub SessionTwice : Type 0
+SessionTwice = IsWellFormed (executed (writer false ∷ reader false (record { session = session; count = 1 } ∷ first_counted) written ∷ [])) → ⊥
+
+-- the second's past counts more than there are
+abbrev pub CountedPast : Type 0
+CountedPast = IsWellFormed (executed (writer false ∷ reader false (record { session = session; count = 3 } ∷ []) written ∷ [])) → ⊥
+
+-- a transaction that isn't committed
+abbrev pub open_one : Loose
+open_one = record { tid = record { site = 1; coord = 1; seq = 3 }; session = session; end = end.Open; ops = []; past = first_counted }
+
+-- one stands twice among those that aren't committed
+abbrev pub LooseTwice : Type 0
+LooseTwice = IsWellFormed (record (executed (writer false ∷ [])) { loose = open_one ∷ open_one ∷ [] }) → ⊥
+
+-- one is committed and isn't
+abbrev pub CommittedAndLoose : Type 0
+CommittedAndLoose = IsWellFormed (record (executed (writer false ∷ [])) { loose = (record open_one { tid = (writer false).tid; past = [] }) ∷ [] }) → ⊥

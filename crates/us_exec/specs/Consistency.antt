@@ -1,8 +1,7 @@
--- Consistency: closed, valued, ordered.
-use Rattle.std.specs.Prelude.{◌≡◌, ℕ, ◌<◌, ◌≤◌, List, [], ◌∷◌, Bool, true, false, ◌⊎◌}
+-- Consistency: closed, valued, ordered; and sound, which is consistent and well formed.
+use Rattle.std.specs.Prelude.{◌≡◌, ◌<◌, ◌≤◌, List, [], ◌∷◌, Bool, true, false, ◌⊎◌}
 use Rattle.std.specs.List.{list_any}
 use Rattle.us_kind.specs.Words.{In, tid_eq}
-use Rattle.us_kind.specs.declared.identity.Tid.{Tid}
 use Rattle.us_exec.specs.declared.SessionName.{SessionName}
 use Rattle.us_exec.specs.declared.Count.{Count}
 use Rattle.us_exec.specs.declared.Done.{Done}
@@ -12,6 +11,7 @@ use Rattle.us_exec.specs.declared.Link.{Link}
 use Rattle.us_exec.specs.declared.Execution.{Execution}
 use Rattle.us_exec.specs.Past.{is_before}
 use Rattle.us_exec.specs.Values.{HaveValues}
+use Rattle.us_exec.specs.WellFormed.{IsWellFormed}
 
 -- CLOSED, for one transaction of this session with this past
 pub record IsClosedPast (x : Execution) (session : SessionName) (past : List Count) : Type 0 where
@@ -53,3 +53,8 @@ pub record IsPor (declared : Done → Done → Bool) (x : Execution) : Type 0 wh
   pub closed : IsClosed x
   pub valued : IsValued x
   pub ordered : IsOrdered declared x
+
+-- SOUND: well formed, and consistent whatever conflicts are declared
+pub record IsSound (x : Execution) : Type 0 where
+  pub formed : IsWellFormed x
+  pub consistent : (declared : Done → Done → Bool) → IsPor declared x

@@ -1,3 +1,4 @@
 pub mod Past
 pub mod Values
+pub mod WellFormed
 pub mod Consistency

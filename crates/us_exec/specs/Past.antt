@@ -1,5 +1,6 @@
 -- What is before what.
-use Rattle.std.specs.Prelude.{ℕ, List, [], ◌∷◌, Bool, true, false, ◌&&◌, ◌==◌, nat_le, if◌then◌else◌}
+use Rattle.std.specs.Prelude.{ℕ, List, [], ◌∷◌, Bool, ◌&&◌, ◌==◌, nat_le, nat_lt, if◌then◌else◌}
+use Rattle.us_kind.specs.Words.{lex}
 use Rattle.us_exec.specs.declared.SessionName.{SessionName}
 use Rattle.us_exec.specs.declared.Count.{Count}
 use Rattle.us_exec.specs.declared.Entry.{Entry}
@@ -7,6 +8,10 @@ use Rattle.us_exec.specs.declared.Entry.{Entry}
 -- the same session
 abbrev pub session_eq : SessionName → SessionName → Bool
 session_eq a b = (a.site == b.site) && ((a.coord == b.coord) && (a.number == b.number))
+
+-- by site, coordinator and number
+abbrev pub session_less : SessionName → SessionName → Bool
+session_less a b = lex a.site b.site (lex a.coord b.coord (nat_lt a.number b.number))
 
 -- how many transactions of a session a past counts
 abbrev pub count_in : SessionName → List Count → ℕ

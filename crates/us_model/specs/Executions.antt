@@ -1,5 +1,5 @@
 -- The execution of a world: what its notes tell, in a user's terms.
-use Rattle.std.specs.Prelude.{ℕ, zero, suc, ◌+◌, List, [], ◌∷◌, ◌++◌, length, Bool, true, false, not, ◌&&◌, ◌||◌, ◌==◌, if◌then◌else◌, nat_lt, Option, Some, None, max}
+use Rattle.std.specs.Prelude.{ℕ, zero, suc, ◌+◌, List, [], ◌∷◌, ◌++◌, length, Bool, true, false, not, ◌&&◌, ◌||◌, if◌then◌else◌, nat_lt, Option, Some, None, max}
 use Rattle.std.specs.List.{list_any}
 use Rattle.us_kind.specs.Words.{tid_eq, tid_less, lex}
 use Rattle.us_kind.specs.declared.identity.Tid.{Tid}
@@ -13,7 +13,7 @@ use Rattle.us_exec.specs.declared.Loose.{Loose}
 use Rattle.us_exec.specs.declared.LooseEnd.{LooseEnd}
 use Rattle.us_exec.specs.declared.LooseEnd.TheVariants as end
 use Rattle.us_exec.specs.declared.Execution.{Execution}
-use Rattle.us_exec.specs.Past.{session_eq}
+use Rattle.us_exec.specs.Past.{session_eq, session_less}
 use Rattle.us_model.specs.declared.event.Note.{Note}
 use Rattle.us_model.specs.declared.event.Note.TheVariants as note
 
@@ -112,9 +112,6 @@ reaches cs c t = reaches_within (length cs) cs c t
 abbrev pub count_from : SessionName → List Committed → Begun → List Committed → ℕ
 count_from s all t [] = 0
 count_from s all t (c ∷ cs) = if session_eq c.begun.session s && reaches all c t then max c.number (count_from s all t cs) else count_from s all t cs
-
-abbrev pub session_less : SessionName → SessionName → Bool
-session_less a b = lex a.site b.site (lex a.coord b.coord (nat_lt a.number b.number))
 
 -- the sessions of the committed transactions, ascending, each once
 abbrev pub with_session : SessionName → List SessionName → List SessionName

@@ -1,5 +1,5 @@
 -- The rules of a partition. Each takes the partition's own actor.
-use Rattle.std.specs.Prelude.{ℕ, ◌+◌, ◌-◌, ◌^◌, ◌%◌, List, [], ◌∷◌, ◌++◌, Bool, true, false, not, ◌&&◌, if◌then◌else◌, nat_le, nat_lt, Option, Some, None, max, min, filter, position, remove, slice_get}
+use Rattle.std.specs.Prelude.{ℕ, ◌+◌, ◌-◌, ◌^◌, ◌%◌, List, [], ◌∷◌, ◌++◌, Bool, false, not, ◌&&◌, if◌then◌else◌, nat_le, nat_lt, Option, Some, None, max, min, filter, position, remove, slice_get}
 use Rattle.std.specs.List.{list_any}
 use Rattle.us_kind.specs.Words.{tid_eq}
 use Rattle.us_kind.specs.declared.identity.Tid.{Tid}

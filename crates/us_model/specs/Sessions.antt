@@ -16,7 +16,6 @@ use Rattle.us_value.specs.Catalogs.{kind_in}
 use Rattle.us_value.specs.Lengths.{write_length}
 use Rattle.us_model.specs.State.{Spaces}
 use Rattle.us_exec.specs.declared.SessionName.{SessionName}
-use Rattle.us_exec.specs.declared.Done.{Done}
 use Rattle.us_wire.specs.Frames.{Reader, Frames, frames_of, fed}
 use Rattle.us_client_wire.specs.declared.frame.Request.{Request}
 use Rattle.us_client_wire.specs.declared.frame.Request.TheVariants.{Begin, Perform, CommitCausal, CommitStrong, Abandon, Barrier, AskToken, Attach}
@@ -24,7 +23,6 @@ use Rattle.us_client_wire.specs.declared.frame.Reply.{Reply}
 use Rattle.us_client_wire.specs.declared.frame.Reply.TheVariants as reply
 use Rattle.us_client_wire.specs.Requests.{request_of}
 use Rattle.us_client_wire.specs.Replies.{reply_spelling}
-use Rattle.us_peer_wire.specs.declared.message.Actor.{Actor}
 use Rattle.us_peer_wire.specs.declared.message.Packet.{Packet}
 use Rattle.us_peer_wire.specs.declared.message.Message.{Message}
 use Rattle.us_peer_wire.specs.declared.message.Message.TheVariants as message

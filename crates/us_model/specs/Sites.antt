@@ -11,7 +11,6 @@ use Rattle.us_value.specs.Catalogs.{kind_in}
 use Rattle.us_model.specs.State.{Spaces}
 use Rattle.us_client_wire.specs.declared.frame.Reply.TheVariants as reply
 use Rattle.us_client_wire.specs.Replies.{reply_spelling}
-use Rattle.us_wire.specs.Frames.{Reader}
 use Rattle.us_peer_wire.specs.declared.message.Actor.{Actor}
 use Rattle.us_peer_wire.specs.declared.message.Packet.{Packet}
 use Rattle.us_peer_wire.specs.declared.message.Message.{Message}
@@ -24,7 +23,7 @@ use Rattle.us_model.specs.declared.coordinator.Session.{Session}
 use Rattle.us_model.specs.declared.coordinator.Waiting.TheVariants as waits
 use Rattle.us_model.specs.declared.coordinator.Desk.{Desk}
 use Rattle.us_model.specs.declared.settings.Settings.{Settings}
-use Rattle.us_model.specs.State.{Partition, Coordinator, Shard, Site}
+use Rattle.us_model.specs.State.{Partition, Shard, Site}
 use Rattle.us_model.specs.Partitions.{known, base, get, may_prepare, prepared as prepared_here, timestamp_for, commit, versions, still_parked}
 use Rattle.us_model.specs.Sessions.{no_stream, Acted, AllActed, each_session, bytes, close, version, prepared, run_session}
 

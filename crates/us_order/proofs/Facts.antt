@@ -247,6 +247,7 @@ pub record OfBegun (bs : List Begun) (tid : Tid) : Type 0 where
 
 pub record HistoryFacts (last : ℕ) (h : History) : Type 0 where
   pub begun_once : (b b' : Begun) → In b h.begun → In b' h.begun → b.tid ≡ b'.tid → b ≡ b'
+  pub begun_apart : AllLater (λ (b c : Begun). b.tid ≡ c.tid → ⊥) h.begun
   pub begun_form : (b : Begun) → In b h.begun → BegunForm last b
   pub performed : (q : Performed) → In q h.performed → OfBegun h.begun q.tid
   pub order : (c : Committed) (b : Begun) → In c h.committed → In b h.begun → c.begun.session ≡ b.session → c.begun.tid.seq < b.tid.seq → at_most c.vector b.snapshot ≡ true

@@ -5,6 +5,7 @@ use Rattle.std.proofs.lemmas.List.{map-append, length-append}
 use Rattle.std.proofs.lemmas.List.Elements.{filter-append}
 use Rattle.us_kind.specs.Words.{In}
 use Rattle.us_kind.specs.Updates.{All, AllLater}
+use Rattle.us_kind.specs.Histories.{all_from}
 use Rattle.us_kind.specs.Ascending.{all_in}
 use Rattle.us_kind.proofs.ListLemmas.{filter_in}
 use Rattle.us_exec.specs.declared.SessionName.{SessionName}
@@ -16,10 +17,6 @@ use Rattle.us_order.specs.Numbers.{of_session, AreNumbered}
 use Rattle.us_order.proofs.Pasts.{session_eq-true, session_eq-same}
 
 -- EARLIER AND LATER ONES
-all_from : {X : Type 0} (P : X → Type 0) (xs : List X) → ((x : X) → In x xs → P x) → All P xs
-all_from P [] h = tt
-all_from P (x ∷ xs) h = (h x (inl refl), all_from P xs (λ y i. h y (inr i)))
-
 all_within : {X : Type 0} (P Q : X → Type 0) (xs : List X) → ((x : X) → In x xs → P x → Q x) → All P xs → All Q xs
 all_within P Q [] f h = tt
 all_within P Q (x ∷ xs) f h = (f x (inl refl) h.0, all_within P Q xs (λ y i. f y (inr i)) h.1)

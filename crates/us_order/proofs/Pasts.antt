@@ -9,9 +9,9 @@ use Rattle.us_kind.proofs.TestLemmas.{tid_eq-true, tid_eq-same}
 use Rattle.us_base.specs.Vector.{entry, at_most}
 use Rattle.us_base.proofs.Vectors.{at_most-true, at_most-trans}
 use Rattle.us_exec.specs.declared.SessionName.{SessionName}
-use Rattle.us_exec.specs.Past.{session_eq, count_in, is_before}
+use Rattle.us_exec.specs.Past.{session_less, session_eq, count_in, is_before}
 use Rattle.us_model.specs.State.{Partition, Spaces}
-use Rattle.us_model.specs.Executions.{Begun, Committed, is_stamped, leads, reaches_within, reaches, count_from, session_less, with_session, sessions_of, counts, past_of, entry_of}
+use Rattle.us_model.specs.Executions.{Begun, Committed, is_stamped, leads, reaches_within, reaches, count_from, with_session, sessions_of, counts, past_of, entry_of}
 use Rattle.us_order.specs.Pasts.{direct_count}
 use Rattle.us_order.proofs.Ledgers.{Ledger}
 use Rattle.us_order.proofs.Facts.{PartitionFacts, SharedFacts}

@@ -80,7 +80,7 @@ quiet_session spaces log l xs ys n past running w asks asked h = record { covere
 
 quiet_shared : (l : Ledger) (xs : List Tid) (ys : List Refusal) → SharedFacts l → SharedFacts (quiet l xs ys)
 quiet_shared l xs ys h = record {
-  told = record { begun_once = h.told.begun_once; begun_form = h.told.begun_form; performed = h.told.performed; order = h.told.order; apart = h.told.apart; decided_once = h.told.decided_once; numbers = h.told.numbers; stands = h.told.stands };
+  told = record { begun_once = h.told.begun_once; begun_apart = h.told.begun_apart; begun_form = h.told.begun_form; performed = h.told.performed; order = h.told.order; apart = h.told.apart; decided_once = h.told.decided_once; numbers = h.told.numbers; stands = h.told.stands };
   once = h.once;
 }
 

@@ -240,6 +240,7 @@ begun_history : (l : Ledger) (n : ℕ) (snapshot : List ℕ) → HistoryFacts l.
     → HistoryFacts (l.seq + 1) (with_begun l (begins_with l n snapshot)).history
 begun_history l n snapshot h small covered = record {
   begun_once = λ x y i j e. once x y e (in_split x l.history.begun new i) (in_split y l.history.begun new j);
+  begun_apart = later_push (λ (x y : Begun). x.tid ≡ y.tid → ⊥) l.history.begun new h.begun_apart (next-new l.seq l.history h);
   begun_form = in_push (BegunForm (l.seq + 1)) l.history.begun new (λ x i. let f = h.begun_form x i in record { site = f.site; coord = f.coord; seq = omega (arith, f.seq); session = f.session; small = f.small }) (record { site = refl; coord = refl; seq = omega arith; session = refl; small = small });
   performed = λ q i. let f = h.performed q i in record { by = f.by; here = in_front _ l.history.begun (new ∷ []) f.here; tid_is = f.tid_is };
   order = λ c x i j e less. ⊎_elim (λ k. h.order c x i k e less) (λ k. subst (λ (y : Begun). at_most c.vector y.snapshot ≡ true) k (covered c i (e ∙ sym (ap (λ (y : Begun). y.session) k)))) (in_split x l.history.begun new j);
@@ -362,6 +363,7 @@ decision l n tx vector = decided_as l.history vector (begun_as n tx)
 decided_history : (spaces : Spaces) (p : Partition) (l : Ledger) (n last : ℕ) (w : Waiting) (tx : Transaction) (vector : List ℕ) → PartitionFacts spaces p l → SharedFacts l → RunningFacts spaces p.log l n last w tx → HistoryFacts l.seq (with_decided l.history (decision l n tx vector))
 decided_history spaces p l n last w tx vector part all run = record {
   begun_once = all.told.begun_once;
+  begun_apart = all.told.begun_apart;
   begun_form = all.told.begun_form;
   performed = all.told.performed;
   order = λ c x i j e less. ⊎_elim (λ k. all.told.order c x k j e less) (λ k. order_new c x k j e less) (in_split c cs new i);
@@ -678,6 +680,7 @@ recorded_keeps spaces b p l d s at place item op tx answer effect v st h running
     told_performed : (l : Ledger) (q : Performed) → (o : OfBegun l.history.begun q.tid) → HistoryFacts l.seq l.history → HistoryFacts l.seq (record l.history { performed = l.history.performed ++ q ∷ [] })
     told_performed l q o h = record {
       begun_once = h.begun_once;
+      begun_apart = h.begun_apart;
       begun_form = h.begun_form;
       performed = in_push (λ (x : Performed). OfBegun l.history.begun x.tid) l.history.performed q h.performed o;
       order = h.order;

@@ -281,6 +281,7 @@ start_facts spaces = record {
     all = record {
       told = record {
         begun_once = λ x y i j e. absurd i;
+        begun_apart = tt;
         begun_form = λ x i. absurd i;
         performed = λ q i. absurd i;
         order = λ c x i j e less. absurd i;

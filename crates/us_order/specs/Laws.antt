@@ -10,7 +10,7 @@ use Rattle.us_model.specs.Worlds.{Happening, start, run}
 use Rattle.us_model.specs.Executions.{Begun, past_of, history_of, execution_of}
 use Rattle.us_order.specs.Pasts.{direct_count, direct_execution}
 use Rattle.us_order.specs.Ascending.{Ascends}
-use Rattle.us_order.specs.WellFormed.{IsWellFormed}
+use Rattle.us_exec.specs.WellFormed.{IsWellFormed}
 
 -- whatever spaces are configured, whatever happens, and whatever conflicts are declared, the execution is closed, valued and ordered
 abbrev pub EveryRunIsPor : Type 0

@@ -1,5 +1,4 @@
 pub mod Pasts
 pub mod Ascending
 pub mod Numbers
-pub mod WellFormed
 pub mod Laws

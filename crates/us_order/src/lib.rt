@@ -22,14 +22,15 @@ pub fn executions_are_direct()
     ensures { ExecutionsAreDirect }
 {}
 
-/// In each session, later transactions have greater vectors, and none that updates is in its own snapshot. So what leads to
-/// a transaction comes first in each session, and can be searched for by halves.
+/// In each session the vectors of later transactions are at least those of earlier ones, and none that updates is in its own
+/// snapshot. So of a session's transactions that update those in a snapshot come first, and can be searched for by halves.
 pub fn histories_ascend()
     ensures { HistoriesAscend }
 {}
 
 /// The execution of a run is well formed: in the order of the entries each session's committed transactions are numbered 1, 2
-/// and so on, as they were begun, and no two transactions, committed or not, have one name.
+/// and so on, as their coordinator began them, no two transactions, committed or not, have one name, and a past names each
+/// session once, ascending, and counts at least one and at most all of its committed transactions.
 pub fn executions_are_well_formed()
     ensures { ExecutionsAreWellFormed }
 {}

@@ -1,9 +1,8 @@
 -- A history that passes the test ascends.
-use Rattle.std.proofs.Common.{◌≡◌, ◌∙◌, inl, inr, ◌<◌, List, [], ◌∷◌, Bool, true, false, sym, ap, true≢false, arith}
+use Rattle.std.proofs.Common.{◌≡◌, ◌∙◌, inl, inr, ◌<◌, List, [], ◌∷◌, Bool, true, false, sym, ap, true≢false}
 use Rattle.std.specs.Prelude.{◌&&◌, ◌||◌, not, nat_lt}
 use Rattle.std.specs.List.{list_all}
-use Rattle.std.proofs.lemmas.Bool.{and_parts, lt-ltb}
-use Rattle.std.proofs.lemmas.Bool.Decides.{nat_tests}
+use Rattle.std.proofs.lemmas.Bool.{and_parts, lt-ltb, ltb-true}
 use Rattle.us_kind.specs.Words.{In, tid_eq}
 use Rattle.us_kind.proofs.TestLemmas.{tid_eq-same}
 use Rattle.us_base.specs.Vector.{at_most}
@@ -11,7 +10,7 @@ use Rattle.us_exec.specs.Past.{session_eq}
 use Rattle.us_model.specs.Executions.{Begun, Committed, History, is_stamped}
 use Rattle.us_order.specs.Ascending.{Ascends, IsNotInItsOwn}
 use Rattle.us_order.proofs.Pasts.{session_eq-same}
-use Rattle.us_world.specs.Found.{ascend_by_number, stays_out, all_stay_out, ascends}
+use Rattle.us_world.specs.ByHand.{ascend_by_number, stays_out, all_stay_out, ascends}
 
 -- one of all that pass
 all-pass : {X : Type 0} (test : X → Bool) (xs : List X) (x : X) → list_all test xs ≡ true → In x xs → test x ≡ true
@@ -23,11 +22,8 @@ all-pass test (y ∷ xs) x h (inr i) = all-pass test xs x (and_parts _ _ h).1 i
 both-ascend : (c d : Committed) → ascend_by_number c d ≡ true → c.begun.session ≡ d.begun.session → c.number < d.number → (c.begun.tid.seq < d.begun.tid.seq) × (at_most c.vector d.vector ≡ true)
 both-ascend c d h same less = on (session_eq c.begun.session d.begun.session) (ap (λ s. session_eq s d.begun.session) same ∙ session_eq-same d.begun.session) (nat_lt c.number d.number) (lt-ltb _ _ less) h
   where
-    below : (a b : _) → nat_lt a b ≡ true → a < b
-    below a b e = grind (arith, nat_tests)
-
     on : (s : Bool) → s ≡ true → (n : Bool) → n ≡ true → (not (s && n) || (nat_lt c.begun.tid.seq d.begun.tid.seq && at_most c.vector d.vector)) ≡ true → (c.begun.tid.seq < d.begun.tid.seq) × (at_most c.vector d.vector ≡ true)
-    on true e true f h = let p = and_parts _ _ h in (below _ _ p.0, p.1)
+    on true e true f h = let p = and_parts _ _ h in (ltb-true _ _ p.0, p.1)
     on true e false f h = absurd (true≢false (sym f))
     on false e n f h = absurd (true≢false (sym e))
 

@@ -2,6 +2,7 @@
 use Rattle.std.proofs.Common.{◌≡◌, ◌∙◌, ℕ, ◌+◌, List, [], ◌∷◌, ◌++◌, length, refl, sym, ap, subst, map, inl, inr}
 use Rattle.us_schedule.specs.declared.line.Line.TheVariants as line
 use Rattle.us_report.specs.declared.report.Report.{Report}
+use Rattle.us_exec.specs.Consistency.{IsSound}
 use Rattle.us_model.specs.declared.event.Event.TheVariants as event
 use Rattle.us_model.specs.State.{Spaces}
 use Rattle.us_model.specs.Worlds.{World, Happening, Opens, Sends, Closes, happens, run, start, waits_of}
@@ -15,7 +16,7 @@ use Rattle.us_world.specs.declared.fault.Numbered.{Numbered}
 use Rattle.us_world.specs.Direct.{reported}
 use Rattle.us_world.specs.Kept.{Kept, StandsFor, after_at}
 use Rattle.us_world.specs.Limits.{Performs, Begins, Outcome, Reaches, Passes, Leads}
-use Rattle.us_world.specs.Lines.{IsBuilt, AllBuilt, PassesBy, IsPerformed, IsStopped, PassAt, HasReached, LeadOn, waiting, report_of, report_of_kept, IsReportOf, IsLimitOf, fault_at, IsConsistent}
+use Rattle.us_world.specs.Lines.{IsBuilt, AllBuilt, PassesBy, IsPerformed, IsStopped, PassAt, HasReached, LeadOn, waiting, report_of, report_of_kept, IsReportOf, IsLimitOf, fault_at}
 use Rattle.us_world.proofs.Standing.{stands_at, events-at}
 use Rattle.us_world.proofs.Happenings.{run-append, OneEvent}
 
@@ -128,11 +129,11 @@ report_is spaces lines k report so direct is =
     in
     record { world = so.world; leads = so.leads; is = is ∙ report-same k so.world so.stands same }
 
-pub report_consistent : (spaces : Spaces) (lines : List Numbered) (report : Report) → EveryRunIsPor → ExecutionsAreWellFormed → IsReportOf spaces lines report → IsConsistent report.execution
-report_consistent spaces lines report por formed is =
+pub report_sound : (spaces : Spaces) (lines : List Numbered) (report : Report) → EveryRunIsPor → ExecutionsAreWellFormed → IsReportOf spaces lines report → IsSound report.execution
+report_sound spaces lines report por formed is =
     let by = led-by-run lines 0 (start spaces) is.world is.leads in
-    let there : IsConsistent (execution_of (run by.0 (start spaces)).notes) = record { formed = formed spaces by.0; consistent = por spaces by.0 } in
-    subst (λ (s : Report). IsConsistent s.execution) (sym is.is) (subst (λ (w : World). IsConsistent (execution_of w.notes)) (sym by.1) there)
+    let there : IsSound (execution_of (run by.0 (start spaces)).notes) = record { formed = formed spaces by.0; consistent = por spaces by.0 } in
+    subst (λ (s : Report). IsSound s.execution) (sym is.is) (subst (λ (w : World). IsSound (execution_of w.notes)) (sym by.1) there)
 
 pub history_ascends : (spaces : Spaces) (lines : List Numbered) (k : Kept) → HasReached spaces lines k → HistoriesAscend → Ascends k.history
 history_ascends spaces lines k so ascend =

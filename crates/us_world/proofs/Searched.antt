@@ -1,11 +1,13 @@
 -- The greatest number that passes a test, found by halves.
 use Rattle.std.proofs.Common.{◌≡◌, ◌∙◌, inl, inr, ℕ, zero, suc, ◌+◌, ◌<◌, ◌≤◌, List, [], ◌∷◌, length, Bool, true, false, cond, Some, map, max, refl, sym, ap, subst, arith, true≢false}
-use Rattle.std.specs.Prelude.{◌&&◌, ◌||◌, not, nat_lt, filter, slice_get, slice_index_or, Result, Ok, Err, IfOk}
+use Rattle.std.specs.Prelude.{◌&&◌, ◌||◌, not, nat_lt, filter, slice_get, slice_index_or}
 use Rattle.std.specs.List.{AllWithin}
 use Rattle.std.specs.List.Sorted.{IsPartitionedBy}
 use Rattle.std.proofs.lemmas.Bool.Decides.{nat_tests}
+use Rattle.std.proofs.lemmas.Bool.{and_parts}
+use Rattle.std.proofs.lemmas.List.{length-map}
+use Rattle.std.proofs.lemmas.List.Elements.{filter_agree}
 use Rattle.us_kind.specs.Words.{In, tid_eq}
-use Rattle.us_kind.specs.declared.memory.Memory.{Memory}
 use Rattle.us_kind.specs.Updates.{All, AllLater}
 use Rattle.us_kind.proofs.ListLemmas.{in_filter}
 use Rattle.us_kind.proofs.Members.{later_filter}
@@ -40,13 +42,6 @@ all_at P f (x ∷ xs) zero d less h = h.0
 all_at P f (x ∷ xs) (suc i) d less h = all_at P f xs i d (omega arith) h.1
 
 -- FILTERS
-filter-same : {X : Type 0} (p q : X → Bool) (xs : List X) → ((x : X) → p x ≡ q x) → filter p xs ≡ filter q xs
-filter-same p q [] h = refl
-filter-same p q (x ∷ xs) h = on (p x) (q x) (h x) (filter-same p q xs h)
-  where
-    on : (a b : Bool) → a ≡ b → filter p xs ≡ filter q xs → cond a (x ∷ filter p xs) (filter p xs) ≡ cond b (x ∷ filter q xs) (filter q xs)
-    on a b e k = λ i. cond (e i) (x ∷ k i) (k i)
-
 filter-both : {X : Type 0} (p q : X → Bool) (xs : List X) → filter q (filter p xs) ≡ filter (λ x. p x && q x) xs
 filter-both p q [] = refl
 filter-both p q (x ∷ xs) = on (p x) (filter-both p q xs)
@@ -81,7 +76,7 @@ pub group_found : (q : Group → Bool) (s : SessionName) (updates : Bool) (cs : 
 group_found q s updates cs keys places test h found =
     ap (found_at cs) (found ∙ ap (places_of q 0) h.groups)
     ∙ found-places q group_of cs 0 cs (λ j. let e : 0 + j ≡ j = omega arith in ap (slice_get cs) e)
-    ∙ ap (map (λ c. Some c)) (filter-same (λ c. q (group_of c)) (is_in_group s updates) cs (group-test q s updates test))
+    ∙ ap (map (λ c. Some c)) (filter_agree (λ c. q (group_of c)) (is_in_group s updates) (group-test q s updates test) cs)
 
 -- both groups are the session's
 pub both_groups : (s : SessionName) (cs : List Committed) (ps qs : List ℕ) → found_at cs ps ≡ map (λ c. Some c) (filter (is_in_group s true) cs) → found_at cs qs ≡ map (λ c. Some c) (filter (is_in_group s false) cs)
@@ -92,12 +87,8 @@ both_groups s cs ps qs p q =
     let all = parts cs in
     omega arith
   where
-    mapped : {X Y : Type 0} (f : X → Y) (xs : List X) → length (map f xs) ≡ length xs
-    mapped f [] = refl
-    mapped f (x ∷ xs) = ap (λ n. suc n) (mapped f xs)
-
     as-long : (is : List ℕ) (ds : List Committed) → found_at cs is ≡ map (λ c. Some c) ds → length is ≡ length ds
-    as-long is ds e = sym (mapped (λ i. slice_get cs i) is) ∙ ap length e ∙ mapped (λ c. Some c) ds
+    as-long is ds e = sym (length-map is (λ i. slice_get cs i)) ∙ ap length e ∙ length-map ds (λ c. Some c)
 
     parts : (ds : List Committed) → length (filter (is_in_group s true) ds) + length (filter (is_in_group s false) ds) ≡ committed_in s ds
     parts [] = refl
@@ -185,11 +176,7 @@ group_first s updates test cs keys is h falls found =
     (later_in (λ (c d : Committed). c.number < d.number) (λ c d. StandsFirst test (Some c) (Some d)) xs (λ c d i j less. on c d (in_filter (is_in_group s updates) c cs i) (in_filter (is_in_group s updates) d cs j) less) risen))
   where
     in_session : (c : Committed) → is_in_group s updates c ≡ true → c.begun.session ≡ s
-    in_session c e = session_eq-true c.begun.session s (first (session_eq c.begun.session s) (updates_so updates c) e)
-      where
-        first : (a b : Bool) → (a && b) ≡ true → a ≡ true
-        first true b e = refl
-        first false b e = e
+    in_session c e = session_eq-true c.begun.session s (and_parts _ _ e).0
 
     on : (c d : Committed) → In c cs × (is_in_group s updates c ≡ true) → In d cs × (is_in_group s updates d ≡ true) → c.number < d.number → StandsFirst test (Some c) (Some d)
     on c d i j less = record { passing = falls c d i.0 j.0 (in_session c i.1 ∙ sym (in_session d j.1)) less; numbers = omega arith }
@@ -308,11 +295,6 @@ direct_other s t cs b others apart eb =
     none c false e b f = refl
     none c true e false f = refl
     none c true e true f = absurd (true≢false (sym (session_eq-same t.session) ∙ ap (λ x. session_eq x t.session) (sym (session_eq-true c.begun.session t.session f)) ∙ ap (λ x. session_eq x t.session) (session_eq-true c.begun.session s e) ∙ apart))
-
--- the next number, where it fits
-pub next_is : (r : Result ℕ Memory) (n m : ℕ) → n ≡ m → IfOk r (λ next. next ≡ n + 1) → IfOk r (λ next. next ≡ m + 1)
-next_is (Ok x) n m e h = h ∙ ap (λ k. k + 1) e
-next_is (Err x) n m e h = h
 
 -- the one whose turn it is
 pub in_turn : {X : Type 0} (xs : List X) (i : ℕ) (x : X) → i < length xs → x ≡ slice_index_or xs i x → In x xs

@@ -1,3 +1,4 @@
+pub mod ByHand
 pub mod Direct
 pub mod Found
 pub mod Limits

@@ -1,17 +1,13 @@
 -- What the lines of a schedule come to by code, and the report at their end.
-use Rattle.std.specs.Prelude.{◌≡◌, ⊤, ℕ, ◌+◌, Bool, List, [], ◌∷◌, length, map, Some, None}
+use Rattle.std.specs.Prelude.{◌≡◌, ⊤, ℕ, ◌+◌, List, [], ◌∷◌, length, map, Some, None}
 use Rattle.us_schedule.specs.declared.line.Line.{Line}
 use Rattle.us_schedule.specs.declared.line.Line.TheVariants as line
-use Rattle.us_exec.specs.declared.Done.{Done}
-use Rattle.us_exec.specs.declared.Execution.{Execution}
-use Rattle.us_exec.specs.Consistency.{IsPor}
 use Rattle.us_report.specs.declared.report.Report.{Report}
 use Rattle.us_report.specs.declared.report.Waiting.{Waiting}
 use Rattle.us_model.specs.State.{Spaces}
 use Rattle.us_model.specs.Worlds.{World, Happening, Waits, waits_of, run, start}
 use Rattle.us_model.specs.Executions.{execution_of, refusals_of}
 use Rattle.us_order.specs.Pasts.{direct_execution}
-use Rattle.us_order.specs.WellFormed.{IsWellFormed}
 use Rattle.us_world.specs.Direct.{reported}
 use Rattle.us_world.specs.Kept.{Kept, StandsFor}
 use Rattle.us_world.specs.Limits.{Performs, Begins, delivery, limit_of, Reaches, Passes, Leads}
@@ -110,8 +106,3 @@ IsLimitOf spaces lines ends.Memory = ⊤
 abbrev pub fault_at : ℕ → WorldFault → LinesFault
 fault_at number fault.Memory = ends.Memory
 fault_at number which = ends.Limit number which
-
--- well formed, and consistent whatever conflicts are declared
-pub record IsConsistent (e : Execution) : Type 0 where
-  pub formed : IsWellFormed e
-  pub consistent : (declared : Done → Done → Bool) → IsPor declared e

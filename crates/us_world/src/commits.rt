@@ -1,11 +1,12 @@
 //! The transactions that were committed.
-ghost use Rattle.std.specs.Prelude.{◌≡◌, ◌+◌, ◌++◌, ◌∷◌, [], ◌&&◌, true, Some, map, filter, max, IfOk, OnOk, slice_get};
+ghost use Rattle.std.specs.Prelude.{◌≡◌, ◌+◌, ◌++◌, ◌∷◌, [], ◌&&◌, true, Some, map, filter, max, IfOk, OnOk, OnErr, slice_get};
 ghost use Rattle.us_model.specs.Executions.{committed_in};
 ghost use Rattle.us_order.specs.Ascending.{SessionsAscend};
 ghost use Rattle.us_order.specs.Pasts.{direct_count};
 ghost use Rattle.us_world.specs.Found.{group_of, is_in_group, greatest, greatest_found, found_at, passes, number_of, is_earlier, is_earlier_of, is_shown, is_shown_of, IsSearchable, PassFirst};
 
 use crate::beginnings::Beginning;
+use crate::numbers::plus;
 use crate::past::{is_stamped, same_session};
 use std::alloc::Global;
 use std::marker::Model;
@@ -79,21 +80,18 @@ impl Commits {
     {
         let updating = self.places(session, true).len() as u64;
         let reading = self.places(session, false).len() as u64;
-        match updating.checked_add(reading) {
-            Some(count) => after(count),
-            None => Err(Memory),
-        }
+        plus(plus(updating, reading)?, 1)
     }
 
-    /// The greatest number of a transaction of the session that leads to this one. It is searched for by halves, since in
-    /// each session those that lead come first.
+    /// The greatest number of a transaction of the session that leads to this one. It is searched for by halves: of a
+    /// session's transactions that update those in a snapshot come first, and of this one's session those begun earlier.
     pub fn count_before(&self, session: &SessionName, transaction: &Beginning) -> u64
         requires { IsSearchable self.now transaction.now }
         ensures { result ≡ direct_count session.now transaction.now self.now }
     {
         let shown = self.last_shown(session, &transaction.snapshot);
         if same_session(session, &transaction.session) {
-            greater(self.last_earlier(session, transaction.tid.seq), shown)
+            self.last_earlier(session, transaction.tid.seq).max(shown)
         } else {
             shown
         }
@@ -102,7 +100,8 @@ impl Commits {
     /// Adds a committed transaction at the end, which is the next of its session.
     pub fn push(&mut self, commit: Commit) -> Result<(), Memory>
         requires { commit.number ≡ committed_in commit.begun.session self.old + 1 }
-        ensures { OnOk result (self.new ≡ self.old ++ commit ∷ []) }
+        ensures ok { OnOk result (self.new ≡ self.old ++ commit ∷ []) }
+        ensures err { OnErr result (self.new ≡ self.old) }
     {
         let group = group_of(&commit);
         self.list.push(commit)?;
@@ -125,15 +124,14 @@ impl Commits {
         })
     }
 
-    /// The greatest number of a transaction of the session that was begun before the one of this number.
+    /// The greatest number of a transaction of the session that was begun earlier than `seq`.
     fn last_earlier(&self, session: &SessionName, seq: u64) -> u64
         requires { SessionsAscend self.now }
         ensures { result ≡ greatest (is_earlier_of session.now seq) self.now }
     {
-        greater(
-            self.last_earlier_in(session, true, seq),
-            self.last_earlier_in(session, false, seq),
-        )
+        let updating = self.last_earlier_in(session, true, seq);
+        let reading = self.last_earlier_in(session, false, seq);
+        updating.max(reading)
     }
 
     /// Of those that update, or of those that don't.
@@ -162,23 +160,7 @@ fn group_of(commit: &Commit) -> Group
     }
 }
 
-/// The next number. One that doesn't fit its type counts as want of memory.
-fn after(count: u64) -> Result<u64, Memory>
-    ensures { IfOk result (λ next. next ≡ count + 1) }
-{
-    match count.checked_add(1) {
-        Some(next) => Ok(next),
-        None => Err(Memory),
-    }
-}
-
-fn greater(a: u64, b: u64) -> u64
-    ensures { result ≡ max a b }
-{
-    if a < b { b } else { a }
-}
-
-/// The greatest number at these places of a transaction that was begun before the one of this number.
+/// The greatest number at these places of a transaction that was begun earlier than `seq`.
 fn earlier_at(list: &[Commit], places: &[usize], seq: u64) -> u64
     requires { PassFirst (is_earlier seq) (found_at list.now places.now) }
     ensures { result ≡ greatest_found (is_earlier seq) (found_at list.now places.now) }
@@ -202,7 +184,7 @@ fn shown_at(list: &[Commit], places: &[usize], snapshot: &Vector) -> u64
     number_at(list, places[count - 1])
 }
 
-/// Whether the transaction at this place was begun before the one of this number.
+/// Whether the transaction at this place was begun earlier than `seq`.
 fn is_earlier(list: &[Commit], place: usize, seq: u64) -> bool
     ensures { result ≡ passes (is_earlier seq) (slice_get list.now place) }
 {

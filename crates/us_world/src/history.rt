@@ -133,7 +133,7 @@ impl History {
         self.refused.as_slice()
     }
 
-    /// The committed transactions, found by their sessions.
+    /// The committed transactions, found by their groups.
     pub(crate) fn commits(&self) -> &Commits
         ensures { result.now ≡ self.now.committed }
     {

@@ -1,7 +1,8 @@
 //! Lines in turn, and what they come to.
 ghost use Rattle.std.specs.Prelude.{◌≡◌, IfOk, IfErr, OnOk};
+ghost use Rattle.us_exec.specs.Consistency.{IsSound};
 ghost use Rattle.us_world.specs.Limits.{OutcomesAreOne};
-ghost use Rattle.us_world.specs.Lines.{AllBuilt, HasReached, fault_at, IsReportOf, IsLimitOf, IsConsistent, LeadOn};
+ghost use Rattle.us_world.specs.Lines.{AllBuilt, HasReached, fault_at, IsReportOf, IsLimitOf, LeadOn};
 
 use crate::{LinesFault, Numbered, World, WorldFault};
 use std::alloc::Global;
@@ -60,7 +61,7 @@ pub fn report_of_lines(
 ) -> Result<Report, LinesFault>
     requires { AllBuilt lines.now }
     ensures report { IfOk result (λ report. IsReportOf catalog lines.now report) }
-    ensures consistent { IfOk result (λ report. IsConsistent report.execution) }
+    ensures sound { IfOk result (λ report. IsSound report.execution) }
     ensures limit { IfErr result (λ fault. IsLimitOf catalog lines.now fault) }
 {
     executions_are_direct();

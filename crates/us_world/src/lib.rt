@@ -8,6 +8,7 @@ mod execution;
 mod fault;
 mod history;
 mod leading;
+mod numbers;
 mod order;
 mod past;
 mod performances;

@@ -7,6 +7,7 @@ ghost use Rattle.us_world.specs.Kept.{AllMarked, StandsFor, unmarked, after_even
 ghost use Rattle.us_world.specs.Limits.{Delivers, is_opening, is_beginning, opened_in, begun_in};
 ghost use Rattle.us_world.specs.Lines.{waiting, IsBuilt, GoesBy, StoppedBy, IsDelivery, IsPerformed, IsStopped, report_of_kept};
 
+use crate::numbers::plus;
 use crate::{History, WorldFault};
 use std::alloc::Global;
 use std::marker::Model;
@@ -56,16 +57,6 @@ impl Model for World {
     ghost Value = { Kept };
 
     ghost view = { λ a. record { site = a.site.site; sent = a.sent.items; cursor = a.cursor; history = a.history; events = a.events; sessions = a.sessions; transactions = a.transactions; stopped = a.site.stopped } };
-}
-
-/// The sum. One that doesn't fit its type counts as want of memory.
-fn plus(count: u64, more: u64) -> Result<u64, Memory>
-    ensures { IfOk result (λ sum. sum ≡ count + more) }
-{
-    match count.checked_add(more) {
-        Some(sum) => Ok(sum),
-        None => Err(Memory),
-    }
 }
 
 fn is_opening(note: &Note) -> bool

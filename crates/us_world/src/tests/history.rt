@@ -146,3 +146,29 @@ fn a_history_tells_its_execution(rt: HostRuntime) -> Result<(), Fail> {
     assert_eq!(rt; sink.written(), want.as_bytes());
     Ok(())
 }
+
+/// A session's second transaction has a vector below that of its first.
+fn descending_history(alloc: Global) -> Result<History, Memory> {
+    let mut history = History::new(alloc);
+    history.note(begun(1, 1, 1, vector(0, 0)))?;
+    history.note(decided(1, 1, 1, vector(5, 0)))?;
+    history.note(begun(1, 1, 2, vector(0, 0)))?;
+    history.note(decided(1, 1, 2, vector(4, 0)))?;
+    Ok(history)
+}
+
+/// A transaction that updates is in its own snapshot.
+fn own_history(alloc: Global) -> Result<History, Memory> {
+    let mut history = History::new(alloc);
+    history.note(begun(1, 1, 1, vector(5, 0)))?;
+    history.note(written(alloc, tid(1, 1, 1), "x", "a")?)?;
+    history.note(decided(1, 1, 1, vector(5, 0)))?;
+    Ok(history)
+}
+
+#[test]
+fn a_history_that_descends_is_told(rt: HostRuntime) -> Result<(), Fail> {
+    assert!(rt; !descending_history(rt.alloc())?.ascends());
+    assert!(rt; !own_history(rt.alloc())?.ascends());
+    Ok(())
+}

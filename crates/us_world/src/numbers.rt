@@ -1,0 +1,14 @@
+//! Numbers that might not fit their types.
+ghost use Rattle.std.specs.Prelude.{◌≡◌, ◌+◌, IfOk};
+
+use us_kind::Memory;
+
+/// The sum. One that doesn't fit its type counts as want of memory.
+pub fn plus(count: u64, more: u64) -> Result<u64, Memory>
+    ensures { IfOk result (λ sum. sum ≡ count + more) }
+{
+    match count.checked_add(more) {
+        Some(sum) => Ok(sum),
+        None => Err(Memory),
+    }
+}
