@@ -1,8 +1,8 @@
 -- The greatest number that passes a test, found by halves.
-use Rattle.std.proofs.Common.{◌≡◌, ◌∙◌, inl, inr, ℕ, zero, suc, ◌+◌, ◌<◌, ◌≤◌, List, [], ◌∷◌, length, Bool, true, false, cond, Some, map, max, refl, sym, ap, subst, arith, true≢false}
+use Rattle.std.proofs.Common.{◌≡◌, ◌∙◌, inl, inr, ℕ, zero, suc, ◌+◌, ◌-◌, ◌<◌, ◌≤◌, List, [], ◌∷◌, length, Bool, true, false, cond, Some, map, max, refl, sym, ap, subst, arith, true≢false}
 use Rattle.std.specs.Prelude.{◌&&◌, ◌||◌, not, nat_lt, filter, slice_get, slice_index_or}
 use Rattle.std.specs.List.{AllWithin}
-use Rattle.std.specs.List.Sorted.{IsPartitionedBy}
+use Rattle.std.specs.List.Sorted.{IsPartitionedBy, IsPartitionPoint}
 use Rattle.std.proofs.lemmas.Bool.Decides.{nat_tests}
 use Rattle.std.proofs.lemmas.Bool.{and_parts}
 use Rattle.std.proofs.lemmas.List.{length-map}
@@ -112,7 +112,7 @@ parted test cs is h i j d le less pass = at is i j le less h pass
     at (x ∷ is) (suc i) zero le less h pass = absurd (omega arith)
     at (x ∷ is) (suc i) (suc j) le less h pass = at is i j (omega arith) (omega arith) h.1 pass
 
-pub none_passes : (test : Committed → Bool) (cs : List Committed) (is : List ℕ) → AllWithin (λ i. passes test (slice_get cs i) ≡ false) is 0 (length is) → greatest_found test (found_at cs is) ≡ 0
+none_passes : (test : Committed → Bool) (cs : List Committed) (is : List ℕ) → AllWithin (λ i. passes test (slice_get cs i) ≡ false) is 0 (length is) → greatest_found test (found_at cs is) ≡ 0
 none_passes test cs [] h = refl
 none_passes test cs (i ∷ is) h = on (passes test (slice_get cs i)) (h 0 0 (omega arith) (omega arith)) (none_passes test cs is (λ k d low high. h (suc k) d (omega arith) (omega arith)))
   where
@@ -120,7 +120,7 @@ none_passes test cs (i ∷ is) h = on (passes test (slice_get cs i)) (h 0 0 (ome
     on true e k = absurd (true≢false e)
     on false e k = k
 
-pub last_passes : (test : Committed → Bool) (cs : List Committed) (is : List ℕ) (k : ℕ) → k < length is
+last_passes : (test : Committed → Bool) (cs : List Committed) (is : List ℕ) (k : ℕ) → k < length is
     → AllWithin (λ i. passes test (slice_get cs i) ≡ true) is 0 (k + 1) → AllWithin (λ i. passes test (slice_get cs i) ≡ false) is (k + 1) (length is)
     → PassFirst test (found_at cs is) → number_of (slice_get cs (slice_index_or is k 0)) ≡ greatest_found test (found_at cs is)
 last_passes test cs [] k less front back h = absurd (omega arith)
@@ -139,6 +139,23 @@ last_passes test cs (i ∷ is) (suc k) less front back h =
         → number_of (slice_get cs (slice_index_or is k 0)) ≡ cond b (max (number_of (slice_get cs i)) (greatest_found test (found_at cs is))) (greatest_found test (found_at cs is))
     on true e same le = omega arith
     on false e same le = absurd (true≢false (sym e))
+
+-- where the point is 0 none passes, and else the one before it is the last that does
+abbrev pub IsPoint : (Committed → Bool) → List Committed → List ℕ → ℕ → Type 0
+IsPoint test cs is n = IsPartitionPoint (λ i. passes test (slice_get cs i) ≡ true) (λ i. passes test (slice_get cs i) ≡ false) is n
+
+pub point_none : (test : Committed → Bool) (cs : List Committed) (is : List ℕ) (n : ℕ) → IsPoint test cs is n → n ≡ 0 → 0 ≡ greatest_found test (found_at cs is)
+point_none test cs is n point z = sym (none_passes test cs is (subst (λ m. AllWithin (λ i. passes test (slice_get cs i) ≡ false) is m (length is)) z point.1))
+
+pub point_last : (test : Committed → Bool) (cs : List Committed) (is : List ℕ) (n : ℕ) → IsPoint test cs is n → (n ≡ 0 → ⊥) → n ≤ length is → PassFirst test (found_at cs is)
+    → number_of (slice_get cs (slice_index_or is (n - 1) 0)) ≡ greatest_found test (found_at cs is)
+point_last test cs is n point some bound first =
+    let next : n ≡ (n - 1) + 1 = omega arith in
+    let less : n - 1 < length is = omega arith in
+    last_passes test cs is (n - 1) less
+    (subst (λ m. AllWithin (λ i. passes test (slice_get cs i) ≡ true) is 0 m) next point.0)
+    (subst (λ m. AllWithin (λ i. passes test (slice_get cs i) ≡ false) is m (length is)) next point.1)
+    first
 
 -- THE GREATEST OF A GROUP
 greatest-some : (test : Committed → Bool) (cs : List Committed) → greatest_found test (map (λ c. Some c) cs) ≡ greatest test cs

@@ -117,6 +117,7 @@ NoneDue from to sent first end = (i : ℕ) → first ≤ i → i < end → is_du
 pub record HasSkipped (old new : Kept) : Type 0 where
   pub same : new ≡ record old { cursor = new.cursor }
   pub over : AllMarked old.sent old.cursor new.cursor
+  pub forward : old.cursor ≤ new.cursor
 
 -- ---- limits
 

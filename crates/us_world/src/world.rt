@@ -1,5 +1,5 @@
 //! A world of one site, and the packets of it.
-ghost use Rattle.std.specs.Prelude.{◌≡◌, ◌+◌, ◌++◌, ◌<◌, ◌^◌, true, false, length, map, IfOk, IfErr, IfSome, IfNone, OnOk};
+ghost use Rattle.std.specs.Prelude.{◌≡◌, ◌+◌, ◌++◌, ◌<◌, ◌≤◌, ◌^◌, true, false, length, map, IfOk, IfErr, IfSome, IfNone, OnOk};
 ghost use Rattle.us_model.specs.Worlds.{start, Flushes};
 ghost use Rattle.us_model.specs.Executions.{noted_all};
 ghost use Rattle.us_order.specs.Ascending.{Ascends};
@@ -128,7 +128,8 @@ fn tell_all(history: &mut History, notes: Items<Note>) -> Result<(), Memory>
 
 /// The first place, from this one on, of a packet that wasn't delivered.
 fn first_undelivered(sent: &[Sent], cursor: usize) -> usize
-    ensures { AllMarked sent.now cursor result }
+    ensures marked { AllMarked sent.now cursor result }
+    ensures forward { cursor ≤ result }
 {
     let mut place = cursor;
     while place < sent.len() && sent[place].delivered {
@@ -222,6 +223,7 @@ impl World {
         requires room { self.old.events < 1000000 }
         ensures running { OnOk result (self.new.stopped ≡ false) }
         ensures happened { OnOk result (self.new ≡ after_at self.old site event) }
+        ensures cursor { OnOk result (self.new.cursor ≡ self.old.cursor) }
     {
         if site == SITE {
             return self.step(alloc, event);
@@ -251,6 +253,7 @@ impl World {
         requires { self.old.stopped ≡ false }
         ensures running { OnOk result (self.new.stopped ≡ false) }
         ensures happened { OnOk result (self.new ≡ after_at self.old site event) }
+        ensures cursor { OnOk result (self.new.cursor ≡ self.old.cursor) }
         ensures limit { LimitSays result (passed_by (after_at self.old site event)) }
     {
         if self.events >= MOST_EVENTS {
@@ -266,6 +269,7 @@ impl World {
         requires within { place < length self.old.sent }
         ensures running { OnOk result (self.new.stopped ≡ false) }
         ensures comes { HasCome result place self.old self.new }
+        ensures cursor { OnOk result (self.new.cursor ≡ self.old.cursor) }
     {
         let packet = delivered_copy(alloc, &mut self.sent, place)?;
         self.happen(alloc, packet.to.site, Event::Take { packet })
@@ -276,6 +280,7 @@ impl World {
         requires { self.old.stopped ≡ false }
         ensures running { OnOk result (self.new.stopped ≡ false) }
         ensures delivered { OnOk result (GoesBy (IsDelivery number) self.old self.new) }
+        ensures forward { OnOk result (self.old.cursor ≤ self.new.cursor) }
         ensures stopped { IfErr result (λ fault. StoppedBy (IsDelivery number) self.old fault) }
     {
         if number == 0 || number > self.sent.len() as u64 {
@@ -300,6 +305,7 @@ impl World {
         requires { self.old.stopped ≡ false }
         ensures running { OnOk result (self.new.stopped ≡ false) }
         ensures flushed { OnOk result (GoesBy (Flushes from to) self.old self.new) }
+        ensures forward { OnOk result (self.old.cursor ≤ self.new.cursor) }
         ensures stopped { IfErr result (λ fault. StoppedBy (Delivers from to) self.old fault) }
     {
         while let Some(place) = self.next_due(from, to) {
@@ -309,12 +315,14 @@ impl World {
     }
 
     /// What the line stands for happens. A fault that is a limit comes at the first event that takes a count past its
-    /// number: events first, then sessions, then transactions. After a fault the world is only dropped.
+    /// number: events first, then sessions, then transactions. After a fault the world is only dropped. Packets that the cursor
+    /// went over are not looked at again.
     pub fn perform(&mut self, alloc: Global, line: &Line) -> Result<(), WorldFault>
         requires running { self.old.stopped ≡ false }
         requires built { IsBuilt line.now }
         ensures running { OnOk result (self.new.stopped ≡ false) }
         ensures performed { OnOk result (IsPerformed line.now self.old self.new) }
+        ensures forward { OnOk result (self.old.cursor ≤ self.new.cursor) }
         ensures stopped { IfErr result (λ fault. IsStopped line.now self.old fault) }
     {
         match line {

@@ -1,9 +1,8 @@
-use Rattle.std.proofs.Common.{◌≡◌, ◌+◌, ◌-◌, ◌<◌, ◌∙◌, true, false, length, sym, subst, arith, rules}
+use Rattle.std.proofs.Common.{◌∙◌, rules}
 use Rattle.std.specs.Prelude.{slice_get}
-use Rattle.std.specs.List.{AllWithin}
 use Rattle.std.proofs.lemmas.List.Sorted.{IsPartitionPoint-from_clause}
 use Rattle.us_world.specs.Found.{is_shown, passes}
-use Rattle.us_world.proofs.Searched.{parted, none_passes, last_passes}
+use Rattle.us_world.proofs.Searched.{parted, point_none, point_last}
 use Rattle.us_world.proofs.commits.shown_at.Goals as goal
 
 pub returns-then-count-eq0 : goal.returns-then-count-eq0
@@ -12,7 +11,7 @@ returns-then-count-eq0 c =
     let list = c.args.list.now in
     let is = c.args.places.now in
     let point = IsPartitionPoint-from_clause (λ i. passes test (slice_get list i)) _ _ c.partition_point-count.ensures.partitioned (parted test list is c.requires) (λ a r q k. search rules) in
-    sym (none_passes test list is (subst (λ n. AllWithin (λ i. passes test (slice_get list i) ≡ false) is n (length is)) c.if-count-eq0.true point.1))
+    point_none test list is c.partition_point-count.result point c.if-count-eq0.true
 
 pub returns : goal.returns
 returns c =
@@ -20,13 +19,5 @@ returns c =
     let list = c.args.list.now in
     let is = c.args.places.now in
     let point = IsPartitionPoint-from_clause (λ i. passes test (slice_get list i)) _ _ c.partition_point-count.ensures.partitioned (parted test list is c.requires) (λ a r q k. search rules) in
-    let n = c.partition_point-count.result in
-    let bound = c.partition_point-count.ensures.bound in
-    let some = c.if-count-eq0.false in
-    let next : n ≡ (n - 1) + 1 = omega arith in
-    let less : n - 1 < length is = omega arith in
     c.number_at.ensures
-    ∙ last_passes test list is (n - 1) less
-    (subst (λ m. AllWithin (λ i. passes test (slice_get list i) ≡ true) is 0 m) next point.0)
-    (subst (λ m. AllWithin (λ i. passes test (slice_get list i) ≡ false) is m (length is)) next point.1)
-    c.requires
+    ∙ point_last test list is c.partition_point-count.result point c.if-count-eq0.false c.partition_point-count.ensures.bound c.requires

@@ -1,4 +1,4 @@
-use Rattle.std.proofs.Common.{◌≡◌, ◌-◌, false}
+use Rattle.std.proofs.Common.{◌≡◌, ◌≤◌, ◌-◌, false}
 use Rattle.us_world.specs.Limits.{Delivers}
 use Rattle.us_world.specs.Lines.{GoesBy}
 use Rattle.us_world.proofs.world.World.flush.Given as goal
@@ -8,6 +8,7 @@ abbrev pub invariant-loop-place : goal.invariant-loop-place
 invariant-loop-place l = record {
   running : l.self.stopped ≡ false;
   came : GoesBy (Delivers l.from l.to) l.fn.self l.self;
+  forward : l.fn.self.cursor ≤ l.self.cursor;
 }
 
 -- each counts an event
