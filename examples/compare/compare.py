@@ -4,7 +4,7 @@
     python3 compare.py PROGRAM SEED CASES [SECONDS]
 
 Inputs that differ are left in the folder `differences`, as they came and with fewer lines. The last lines say how many cases
-there were, how many differed, and what was met. The environment may set LONG (numbers of lines of a schedule), MODE (`config`
+there were, how many differed, and what was met; the exit status is 1 where some did or none was tried. The environment may set LONG (numbers of lines of a schedule), MODE (`config`
 or `lines`: more of these that are refused) and SPECIAL (the share of inputs at a limit).
 """
 
@@ -24,27 +24,25 @@ SPECIAL = float(os.environ.get("SPECIAL", "0.01"))
 FAILS = "differences"
 
 
-def frame(body):
-    return (len(body) + 2).to_bytes(4, "big") + b"\1" + body   # body begins with its tag
-
-
-def raw(version, body):
+def of_version(version, body):
+    """a frame of any version"""
     return (len(body) + 1).to_bytes(4, "big") + bytes([version]) + body
 
 
-def fr(tag, fields=b""):
+def request(tag, fields=b""):
+    """a frame of version 1, with its tag and its fields"""
     b = bytes([1, tag]) + fields
     return len(b).to_bytes(4, "big") + b
 
 
-BEGIN, COMMIT, STRONG, ABANDON, BARRIER, TOKEN = (fr(t) for t in (1, 3, 4, 5, 6, 7))
+BEGIN, COMMIT, STRONG, ABANDON, BARRIER, TOKEN = (request(t) for t in (1, 3, 4, 5, 6, 7))
 
 
-def item_b(item):
+def item_bytes(item):
     return bytes([item[0], len(item[1])]) + item[1]
 
 
-def op_b(op):
+def op_bytes(op):
     b = bytes([op[0]])
     if op[0] in (2, 6, 7, 8, 13):
         b += len(op[1]).to_bytes(2, "big") + op[1]
@@ -54,14 +52,16 @@ def op_b(op):
 
 
 def perform(item, op):
-    return fr(2, item_b(item) + op_b(op))
+    return request(2, item_bytes(item) + op_bytes(op))
 
 
 CODES = {"register": (1, 2, 2), "counter": (3, 4, 4), "set": (5, 5, 6, 7, 7, 7, 8, 8),
          "flag": (9, 9, 10, 10, 11), "multi": (12, 12, 13, 13, 13)}
 
 
-class Gen:
+class Inputs:
+    """random words and texts, from one source of random numbers"""
+
     def __init__(self, rng):
         self.r = rng
 
@@ -230,7 +230,7 @@ class Gen:
         b = bytes([1, 1]) + n(r.choice([1, 2])) + n(r.choice([0, 1, 1 << 62])) + n(0) + n(r.choice([0, 1, 65]))
         if not good:
             b = b[:r.randint(0, len(b))]
-        return fr(8, b)
+        return request(8, b)
 
     def bad_frame(self):
         r = self.r
@@ -240,35 +240,35 @@ class Gen:
         if x == 1:
             return r.choice([0, 1, 65533, 65536, 1 << 20, 0xffffffff]).to_bytes(4, "big") + bytes(r.randint(0, 3))
         if x == 2:
-            return raw(r.choice([0, 2, 255]), r.choice([b"\1", b"\3", b"\2"]))
+            return of_version(r.choice([0, 2, 255]), r.choice([b"\1", b"\3", b"\2"]))
         if x == 3:
-            return fr(r.choice([0, 9, 10, 99, 128, 129, 130, 131, 137, 255]), r.choice([b"", b"\0" * 8]))
+            return request(r.choice([0, 9, 10, 99, 128, 129, 130, 131, 137, 255]), r.choice([b"", b"\0" * 8]))
         if x == 4:
-            return fr(r.choice([1, 3, 5]), bytes(r.randint(1, 3)))
+            return request(r.choice([1, 3, 5]), bytes(r.randint(1, 3)))
         if x == 5:
-            return fr(2, item_b((0, b"a")) + b"\1")
+            return request(2, item_bytes((0, b"a")) + b"\1")
         if x == 6:
-            return fr(2, bytes([1, 0, 1]))
+            return request(2, bytes([1, 0, 1]))
         if x == 7:
-            return fr(2, bytes([1, 65]) + b"a" * 65 + b"\1")
+            return request(2, bytes([1, 65]) + b"a" * 65 + b"\1")
         if x == 8:
-            return fr(2, item_b((1, b"a")) + bytes([r.choice([0, 14, 15, 255])]))
+            return request(2, item_bytes((1, b"a")) + bytes([r.choice([0, 14, 15, 255])]))
         if x == 9:
             it = r.choice(self.items)
-            return fr(2, item_b(it) + bytes([r.choice([2, 6, 7, 8, 13])]) + (1025).to_bytes(2, "big") + b"a" * 1025)
+            return request(2, item_bytes(it) + bytes([r.choice([2, 6, 7, 8, 13])]) + (1025).to_bytes(2, "big") + b"a" * 1025)
         if x == 10:
             f = self.good_perform()
             b = f[6:]
             b = b[:r.randint(0, len(b) - 1)]
-            return fr(2, b)
+            return request(2, b)
         if x == 11:
-            return fr(2, self.good_perform()[6:] + bytes([r.randrange(256)]))
+            return request(2, self.good_perform()[6:] + bytes([r.randrange(256)]))
         if x == 12:
-            return fr(2, item_b((1, b"a")) + b"\4" + bytes(r.choice([0, 7, 9, 16])))
+            return request(2, item_bytes((1, b"a")) + b"\4" + bytes(r.choice([0, 7, 9, 16])))
         if x == 13:
-            return fr(r.choice([1, 2, 3]), bytes(r.randrange(256) for _ in range(r.choice([0, 1, 20, 300]))))
+            return request(r.choice([1, 2, 3]), bytes(r.randrange(256) for _ in range(r.choice([0, 1, 20, 300]))))
         if x == 14:   # the longest frame that is no bad length
-            return fr(2, bytes(65530)) if self.one(0.3) else fr(99, bytes(200))
+            return request(2, bytes(65530)) if self.one(0.3) else request(99, bytes(200))
         b = bytearray(self.good_perform())
         b[r.randrange(4, len(b))] ^= 1 << r.randrange(8)
         return bytes(b)
@@ -662,6 +662,8 @@ def keep(name, data):
 
 
 def main():
+    if len(sys.argv) < 4 or not os.access(sys.argv[1], os.X_OK):
+        sys.exit(__doc__)
     seed, cases = int(sys.argv[2]), int(sys.argv[3])
     seconds = float(sys.argv[4]) if len(sys.argv) > 4 else 600
     total, bad, t0, size = Counter(), 0, time.time(), 0
@@ -670,7 +672,7 @@ def main():
         if time.time() - t0 > seconds:
             break
         rng = random.Random(seed * 1_000_003 + k)
-        words, data = Gen(rng).case()
+        words, data = Inputs(rng).case()
         size += len(data)
         try:
             o, g = both(words, data)
@@ -695,6 +697,7 @@ def main():
     print("cases %d differences %d bytes %d seconds %.1f" % (n, bad, size, time.time() - t0))
     for k in sorted(total):
         print("  %-60s %d" % (k, total[k]))
+    sys.exit(1 if bad or not n else 0)
 
 
 if __name__ == "__main__":

@@ -1,4 +1,4 @@
--- Executions of two transactions, worked by hand, of which one thing is wrong.
+-- Executions of one or two transactions, worked by hand, of which one thing is wrong.
 use Rattle.std.specs.Prelude.{List, [], ◌∷◌, Bool, true, false}
 use Rattle.us_value.specs.declared.item.Item.{Item}
 use Rattle.us_value.specs.declared.operation.Op.TheVariants.{RegisterRead, RegisterWrite}
@@ -74,10 +74,10 @@ written = answer.Value (120 ∷ [])
 abbrev pub OneNumber : Type 0
 OneNumber = IsWellFormed (executed (writer false ∷ (record (reader false [] answer.Nothing) { number = 1 }) ∷ [])) → ⊥
 
--- the second is of another session, and has the name of the first
 abbrev pub other_session : SessionName
 other_session = record { site = 1; coord = 1; number = 2 }
 
+-- the second is of another session, and has the name of the first
 abbrev pub OneName : Type 0
 OneName =
     IsWellFormed
