@@ -362,7 +362,15 @@ impl World {
         }
     }
 
-    /// What the run so far came to. The history of every world that lines lead to ascends (`us_order`, `histories_ascend`).
+    /// What the run so far told.
+    pub fn history(&self) -> &History
+        ensures { result.now ≡ self.now.history }
+    {
+        &self.history
+    }
+
+    /// What the run so far came to. The history of every world that lines lead to ascends (`us_order`, `histories_ascend`), and
+    /// `History::ascends` tests it.
     pub fn report(&self, alloc: Global) -> Result<Report, Memory>
         requires { Ascends self.now.history }
         ensures { IfOk result (λ report. report ≡ report_of_kept self.now) }
