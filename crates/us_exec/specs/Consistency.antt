@@ -1,15 +1,14 @@
 -- Consistency: closed, valued, ordered; and sound, which is consistent and well formed.
-use Rattle.std.specs.Prelude.{◌≡◌, ◌<◌, ◌≤◌, List, [], ◌∷◌, Bool, true, false, ◌⊎◌}
-use Rattle.std.specs.List.{list_any}
+use Rattle.std.specs.Prelude.{◌≡◌, ◌<◌, ◌≤◌, List, [], ◌∷◌, true, false, ◌⊎◌}
 use Rattle.us_kind.specs.Words.{In, tid_eq}
 use Rattle.us_exec.specs.declared.SessionName.{SessionName}
 use Rattle.us_exec.specs.declared.Count.{Count}
-use Rattle.us_exec.specs.declared.Done.{Done}
 use Rattle.us_exec.specs.declared.Entry.{Entry}
 use Rattle.us_exec.specs.declared.Loose.{Loose}
 use Rattle.us_exec.specs.declared.Link.{Link}
 use Rattle.us_exec.specs.declared.Execution.{Execution}
 use Rattle.us_exec.specs.Past.{is_before}
+use Rattle.us_exec.specs.Conflict.{Declared, conflict}
 use Rattle.us_exec.specs.Values.{HaveValues}
 use Rattle.us_exec.specs.WellFormed.{IsWellFormed}
 
@@ -39,22 +38,18 @@ pub record IsValued (x : Execution) : Type 0 where
   pub entries : (e : Entry) → In e x.entries → HaveValues x.entries e.tid e.past [] e.ops
   pub loose : (l : Loose) → In l x.loose → HaveValues x.entries l.tid l.past [] l.ops
 
--- some operation of the one conflicts with some operation of the other, as declared
-abbrev pub conflict : (Done → Done → Bool) → List Done → List Done → Bool
-conflict declared xs ys = list_any (λ a. list_any (λ b. declared a b) ys) xs
-
 -- ORDERED: of two strong transactions that conflict, one is before the other
-pub record IsOrdered (declared : Done → Done → Bool) (x : Execution) : Type 0 where
+pub record IsOrdered (declared : Declared) (x : Execution) : Type 0 where
   pub ordered : (d e : Entry) → In d x.entries → In e x.entries → tid_eq d.tid e.tid ≡ false → d.strong ≡ true → e.strong ≡ true
       → conflict declared d.ops e.ops ≡ true → (is_before d e.past ≡ true) ⊎ (is_before e d.past ≡ true)
 
 -- CONSISTENT, by declared conflicts and without a clause on progress
-pub record IsPor (declared : Done → Done → Bool) (x : Execution) : Type 0 where
+pub record IsPor (declared : Declared) (x : Execution) : Type 0 where
   pub closed : IsClosed x
   pub valued : IsValued x
   pub ordered : IsOrdered declared x
 
--- SOUND: well formed, and consistent whatever conflicts are declared
-pub record IsSound (x : Execution) : Type 0 where
+-- SOUND: well formed, and consistent by declared conflicts
+pub record IsSound (declared : Declared) (x : Execution) : Type 0 where
   pub formed : IsWellFormed x
-  pub consistent : (declared : Done → Done → Bool) → IsPor declared x
+  pub consistent : IsPor declared x

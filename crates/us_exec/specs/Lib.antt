@@ -1,4 +1,5 @@
 pub mod Past
 pub mod Values
 pub mod WellFormed
+pub mod Conflict
 pub mod Consistency

@@ -5,6 +5,7 @@ ghost use Rattle.std.specs.Prelude.{◌≡◌, ◌<◌, IfOk, Some, length, slic
 ghost use Rattle.us_exec.specs.declared.Entry.{Entry};
 ghost use Rattle.us_exec.specs.Past.{count_in, is_before};
 
+use std::alloc::AllocError;
 use us_kind::{Items, Memory, Tid};
 use us_value::{Answer, Item, Op};
 
@@ -36,6 +37,14 @@ impl Done {
     }
 }
 
+impl Clone for Done {
+    ghost is_clone = { λ a b. b ≡ a };
+
+    fn clone(&self) -> Result<Done, AllocError> {
+        self.copy().map_err(|_| AllocError)
+    }
+}
+
 /// Of a session, so many of its committed transactions, the first of them first.
 #[derive(Clone, Copy, Debug, PartialEq, Eq)]
 pub struct Count {
@@ -55,11 +64,53 @@ pub struct Entry {
     pub past: Items<Count>,
 }
 
+impl Entry {
+    pub fn copy(&self) -> Result<Entry, Memory>
+        ensures { IfOk result (λ copy. copy ≡ self.now) }
+    {
+        Ok(Entry {
+            tid: self.tid,
+            session: self.session,
+            number: self.number,
+            strong: self.strong,
+            ops: self.ops.clone()?,
+            past: self.past.clone()?,
+        })
+    }
+}
+
+impl Clone for Entry {
+    ghost is_clone = { λ a b. b ≡ a };
+
+    fn clone(&self) -> Result<Entry, AllocError> {
+        self.copy().map_err(|_| AllocError)
+    }
+}
+
 /// How a transaction stands that was begun and isn't committed.
-#[derive(Clone, Copy, Debug, PartialEq, Eq)]
+#[derive(Debug, PartialEq, Eq, Drop)]
 pub enum LooseEnd {
+    /// It may still commit.
     Open,
+    /// Its client gave it up, or is gone.
     Left,
+    /// A strong one that conflicts with a committed one, on this item, which isn't in its past.
+    Aborted { named: Tid, item: Item },
+}
+
+impl LooseEnd {
+    pub fn copy(&self) -> Result<LooseEnd, Memory>
+        ensures { IfOk result (λ copy. copy ≡ self.now) }
+    {
+        Ok(match self {
+            LooseEnd::Open => LooseEnd::Open,
+            LooseEnd::Left => LooseEnd::Left,
+            LooseEnd::Aborted { named, item } => LooseEnd::Aborted {
+                named: *named,
+                item: item.copy()?,
+            },
+        })
+    }
 }
 
 /// A transaction that was begun and isn't committed.
@@ -70,6 +121,28 @@ pub struct Loose {
     pub end: LooseEnd,
     pub ops: Items<Done>,
     pub past: Items<Count>,
+}
+
+impl Loose {
+    pub fn copy(&self) -> Result<Loose, Memory>
+        ensures { IfOk result (λ copy. copy ≡ self.now) }
+    {
+        Ok(Loose {
+            tid: self.tid,
+            session: self.session,
+            end: self.end.copy()?,
+            ops: self.ops.clone()?,
+            past: self.past.clone()?,
+        })
+    }
+}
+
+impl Clone for Loose {
+    ghost is_clone = { λ a b. b ≡ a };
+
+    fn clone(&self) -> Result<Loose, AllocError> {
+        self.copy().map_err(|_| AllocError)
+    }
 }
 
 /// The session goes on after the first `count` committed transactions of another one.
@@ -89,6 +162,22 @@ pub struct Execution {
     pub links: Items<Link>,
 }
 
+/// A request that was refused: the session, the count of its frames up to the one refused, and the number of the refusal,
+/// from 1.
+#[derive(Clone, Copy, Debug, PartialEq, Eq)]
+pub struct RefusedRequest {
+    pub session: SessionName,
+    pub at: u64,
+    pub number: u8,
+}
+
+/// An open session with unanswered requests, and the count of its frames up to the first of them.
+#[derive(Clone, Copy, Debug, PartialEq, Eq)]
+pub struct WaitingRequest {
+    pub session: SessionName,
+    pub at: u64,
+}
+
 /// How many transactions of a session a past counts.
 fn count_in(session: &SessionName, past: &[Count]) -> u64
     ensures { result ≡ count_in session.now past.now }
@@ -102,6 +191,16 @@ fn count_in(session: &SessionName, past: &[Count]) -> u64
 }
 
 impl Execution {
+    pub fn copy(&self) -> Result<Execution, Memory>
+        ensures { IfOk result (λ copy. copy ≡ self.now) }
+    {
+        Ok(Execution {
+            entries: self.entries.clone()?,
+            loose: self.loose.clone()?,
+            links: self.links.clone()?,
+        })
+    }
+
     /// Whether one transaction is before another, by their places in `entries`, from 0.
     pub fn before(&self, one: usize, other: usize) -> bool
         requires one { one < length self.now.entries }
