@@ -1,5 +1,7 @@
+ghost use Rattle.std.specs.Prelude.{◌≡◌, IfOk};
+
 use us_base::Limits;
-use us_kind::Tid;
+use us_kind::{Memory, Tid};
 use us_migrate::Token;
 use us_value::{Answer, Item, Op};
 
@@ -14,6 +16,26 @@ pub enum Request {
     Barrier,
     AskToken,
     Attach { token: Token },
+}
+
+impl Request {
+    pub fn copy(&self) -> Result<Request, Memory>
+        ensures { IfOk result (λ copy. copy ≡ self.now) }
+    {
+        Ok(match self {
+            Request::Begin => Request::Begin,
+            Request::Perform { item, op } => Request::Perform {
+                item: item.copy()?,
+                op: op.copy()?,
+            },
+            Request::CommitCausal => Request::CommitCausal,
+            Request::CommitStrong => Request::CommitStrong,
+            Request::Abandon => Request::Abandon,
+            Request::Barrier => Request::Barrier,
+            Request::AskToken => Request::AskToken,
+            Request::Attach { token } => Request::Attach { token: *token },
+        })
+    }
 }
 
 /// What a session tells its client. `at` is the number of the session's frame that is answered, from 1; it is 0 for a
@@ -32,6 +54,40 @@ pub enum Reply {
     Attached { at: u64 },
     /// `number` says why, from 1 to 11, as docs/PROTOCOL.md lists it.
     Refused { at: u64, number: u8 },
+}
+
+impl Reply {
+    pub fn copy(&self) -> Result<Reply, Memory>
+        ensures { IfOk result (λ copy. copy ≡ self.now) }
+    {
+        Ok(match self {
+            Reply::Started { at, tid } => Reply::Started { at: *at, tid: *tid },
+            Reply::Answered { at, answer } => Reply::Answered {
+                at: *at,
+                answer: answer.copy()?,
+            },
+            Reply::Committed { at, count } => Reply::Committed {
+                at: *at,
+                count: *count,
+            },
+            Reply::Aborted { at, named, item } => Reply::Aborted {
+                at: *at,
+                named: *named,
+                item: item.copy()?,
+            },
+            Reply::Dropped { at } => Reply::Dropped { at: *at },
+            Reply::Passed { at } => Reply::Passed { at: *at },
+            Reply::TokenIs { at, token } => Reply::TokenIs {
+                at: *at,
+                token: *token,
+            },
+            Reply::Attached { at } => Reply::Attached { at: *at },
+            Reply::Refused { at, number } => Reply::Refused {
+                at: *at,
+                number: *number,
+            },
+        })
+    }
 }
 
 /// The version that each frame names.

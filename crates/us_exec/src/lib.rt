@@ -54,7 +54,7 @@ pub struct Count {
 
 /// A committed transaction, the `number`-th of its session, from 1. `past` counts, per session, ascending
 /// and above 0, the transactions that are before it.
-#[derive(Drop)]
+#[derive(Debug, PartialEq, Eq, Drop)]
 pub struct Entry {
     pub tid: Tid,
     pub session: SessionName,
@@ -114,7 +114,7 @@ impl LooseEnd {
 }
 
 /// A transaction that was begun and isn't committed.
-#[derive(Drop)]
+#[derive(Debug, PartialEq, Eq, Drop)]
 pub struct Loose {
     pub tid: Tid,
     pub session: SessionName,
@@ -155,7 +155,7 @@ pub struct Link {
 
 /// An execution: the committed transactions in arbitration order, the others in order of beginning, and the
 /// links between sessions in order of attaching.
-#[derive(Drop)]
+#[derive(Debug, PartialEq, Eq, Drop)]
 pub struct Execution {
     pub entries: Items<Entry>,
     pub loose: Items<Loose>,
@@ -263,17 +263,46 @@ mod tests {
         Ok(())
     }
 
-    #[test]
-    fn a_copy_is_equal(rt: HostRuntime) -> Result<(), Fail> {
-        let done = Done {
+    fn done(alloc: Global) -> Result<Done, Memory> {
+        Ok(Done {
             item: Item {
                 space: 1,
-                id: Bytes::from_slice(rt.alloc(), b"a")?,
+                id: Bytes::from_slice(alloc, b"a")?,
             },
             op: Op::RegisterRead,
             answer: Answer::Nothing,
+        })
+    }
+
+    fn aborted(alloc: Global) -> Result<Loose, Memory> {
+        let entry = entry(alloc, 3, &[])?;
+        let mut ops = Items::new(alloc);
+        ops.push(done(alloc)?)?;
+        Ok(Loose {
+            tid: entry.tid,
+            session: entry.session,
+            end: LooseEnd::Aborted {
+                named: entry.tid,
+                item: done(alloc)?.item,
+            },
+            ops,
+            past: entry.past,
+        })
+    }
+
+    #[test]
+    fn a_copy_is_equal(rt: HostRuntime) -> Result<(), Fail> {
+        let alloc = rt.alloc();
+        let mut entries = Items::new(alloc);
+        entries.push(entry(alloc, 1, &[])?)?;
+        let mut loose = Items::new(alloc);
+        loose.push(aborted(alloc)?)?;
+        let execution = Execution {
+            entries,
+            loose,
+            links: Items::new(alloc),
         };
-        assert_eq!(rt; done.copy()?, done);
+        assert_eq!(rt; execution.copy()?, execution);
         Ok(())
     }
 }

@@ -86,6 +86,13 @@ every_line_report = record {
           ops = [];
           past = counted 1 1 1 0 ∷ [];
         }
+        ∷ record {
+          tid = record { site = 3; coord = 1; seq = 9 };
+          session = session_named 3 1 2;
+          end = end.Aborted (record { site = 1; coord = 2; seq = 6 }) (record { space = 7; id = 190 ∷ 3 ∷ [] });
+          ops = [];
+          past = counted 2 1 4 5 ∷ [];
+        }
         ∷ [];
     links = record { session = session_named 1 2 3; from = session_named 3 1 1; count = 7 } ∷ [];
   };
@@ -98,7 +105,8 @@ every_line_text =
     codes "t 3.2.4611686018427387904 3.2.7 12 strong 1.1.1=2 3.2.7=11\n" ++ codes "o 255:00af write:0dde done\n" ++ codes "o 9:7f read none\n"
     ++ codes "l 1.2.2 1.2.1 open 1.1.1=1\n" ++ codes "o 1:61 read value:78\n"
     ++ codes "l 2.1.5 2.1.4 left -\n"
+    ++ codes "l 3.1.9 3.1.2 aborted:1.2.6:7:be03 2.1.4=5\n"
     ++ codes "k 1.2.3 3.1.1 7\n"
     ++ codes "x 1.1.1 65 9\n"
     ++ codes "w 1.2.1 5\n"
-    ++ codes "committed 1 strong 1 aborted 0 loose 2 links 1 refused 1 waiting 1\n"
+    ++ codes "committed 1 strong 1 aborted 1 loose 3 links 1 refused 1 waiting 1\n"

@@ -18,8 +18,8 @@ use Rattle.us_exec.specs.declared.LooseEnd.TheVariants as end
 use Rattle.us_exec.specs.declared.Loose.{Loose}
 use Rattle.us_exec.specs.declared.Link.{Link}
 use Rattle.us_exec.specs.declared.Execution.{Execution}
-use Rattle.us_report.specs.declared.report.Refusal.{Refusal}
-use Rattle.us_report.specs.declared.report.Waiting.{Waiting}
+use Rattle.us_exec.specs.declared.RefusedRequest.{RefusedRequest}
+use Rattle.us_exec.specs.declared.WaitingRequest.{WaitingRequest}
 use Rattle.us_report.specs.declared.report.Report.{Report}
 
 -- three numbers with dots: a transaction's site, coordinator and number
@@ -102,6 +102,7 @@ entry_text e =
 abbrev pub end_text : LooseEnd → List ℕ
 end_text end.Open = codes "open"
 end_text end.Left = codes "left"
+end_text (end.Aborted named item) = codes "aborted:" ++ tid_text named ++ codes ":" ++ item_text item
 
 -- the lines of a transaction that isn't committed
 abbrev pub loose_text : Loose → List ℕ
@@ -114,21 +115,22 @@ abbrev pub link_text : Link → List ℕ
 link_text k = codes "k " ++ session_text k.session ++ codes " " ++ session_text k.from ++ codes " " ++ decimal k.count ++ codes "\n"
 
 -- the line of a refused request
-abbrev pub refusal_text : Refusal → List ℕ
+abbrev pub refusal_text : RefusedRequest → List ℕ
 refusal_text x = codes "x " ++ session_text x.session ++ codes " " ++ decimal x.at ++ codes " " ++ decimal x.number ++ codes "\n"
 
 -- the line of a session that waits
-abbrev pub waiting_text : Waiting → List ℕ
+abbrev pub waiting_text : WaitingRequest → List ℕ
 waiting_text w = codes "w " ++ session_text w.session ++ codes " " ++ decimal w.at ++ codes "\n"
 
 -- how many of the committed transactions are strong
 abbrev pub strong_count : List Entry → ℕ
 strong_count es = count_by (λ e. e.strong) es
 
--- a transaction was aborted; no end says so yet
+-- a transaction was aborted
 abbrev pub is_aborted : LooseEnd → Bool
 is_aborted end.Open = false
 is_aborted end.Left = false
+is_aborted (end.Aborted named item) = true
 
 -- how many transactions were aborted
 abbrev pub aborted_count : List Loose → ℕ

@@ -7,7 +7,7 @@ mod rows;
 mod words;
 mod writing;
 
-pub use report::{Refusal, Report, ReportFault, Waiting};
+pub use report::{Report, ReportFault};
 pub use rows::worked_reports;
 pub use writing::write_report;
 

@@ -3,11 +3,11 @@ ghost use Rattle.std.specs.List.{flat_map, list_any};
 ghost use Rattle.us_report.specs.Text.{past_text, count_text, is_counted};
 
 use crate::words::{
-    AnswerText, CountsText, ItemText, OpText, SessionText, TidText, end_word, kind_word,
+    AnswerText, CountsText, EndText, ItemText, OpText, SessionText, TidText, kind_word,
 };
-use crate::{Refusal, Report, Waiting};
+use crate::Report;
 use std::alloc::AllocError;
-use us_exec::{Count, Done, Entry, Link, Loose};
+use us_exec::{Count, Done, Entry, Link, Loose, RefusedRequest, WaitingRequest};
 
 /// What has lines in a report.
 pub trait Lines {
@@ -117,7 +117,7 @@ impl Lines for Loose {
             "l {} {} {}",
             TidText(self.tid),
             SessionText(self.session),
-            end_word(self.end)
+            EndText(&self.end)
         )?;
         push_past(line, self.past.as_slice())?;
         line.push_str("\n")?;
@@ -141,7 +141,7 @@ impl Lines for Link {
     }
 }
 
-impl Lines for Refusal {
+impl Lines for RefusedRequest {
     ghost use Rattle.us_report.specs.Text.{refusal_text};
 
     ghost text = { refusal_text };
@@ -157,7 +157,7 @@ impl Lines for Refusal {
     }
 }
 
-impl Lines for Waiting {
+impl Lines for WaitingRequest {
     ghost use Rattle.us_report.specs.Text.{waiting_text};
 
     ghost text = { waiting_text };

@@ -2,7 +2,10 @@ use super::*;
 use std::alloc::Global;
 use std::test::Fail;
 use us_edge::{Failed, Sink};
-use us_exec::{Count, Done, Entry, Execution, Link, Loose, LooseEnd, SessionName};
+use us_exec::{
+    Count, Done, Entry, Execution, Link, Loose, LooseEnd, RefusedRequest, SessionName,
+    WaitingRequest,
+};
 use us_kind::{Bytes, Items, Memory, Tid};
 use us_value::{Answer, Item, Op};
 
@@ -204,6 +207,25 @@ fn left_one(alloc: Global) -> Result<Loose, Memory> {
     })
 }
 
+fn aborted_one(alloc: Global) -> Result<Loose, Memory> {
+    Ok(Loose {
+        tid: tid(3, 1, 9),
+        session: session(3, 1, 2),
+        end: LooseEnd::Aborted {
+            named: tid(1, 2, 6),
+            item: item(alloc, 7, &[190, 3])?,
+        },
+        ops: Items::new(alloc),
+        past: past(alloc, &[count(session(2, 1, 4), 5)])?,
+    })
+}
+
+fn loose_ones(alloc: Global) -> Result<Items<Loose>, Memory> {
+    let mut loose = pair(alloc, open_one(alloc)?, left_one(alloc)?)?;
+    loose.push(aborted_one(alloc)?)?;
+    Ok(loose)
+}
+
 fn every_line_execution(alloc: Global) -> Result<Execution, Memory> {
     let link = Link {
         session: session(1, 2, 3),
@@ -212,19 +234,19 @@ fn every_line_execution(alloc: Global) -> Result<Execution, Memory> {
     };
     Ok(Execution {
         entries: one(alloc, strong_entry(alloc)?)?,
-        loose: pair(alloc, open_one(alloc)?, left_one(alloc)?)?,
+        loose: loose_ones(alloc)?,
         links: one(alloc, link)?,
     })
 }
 
 // Each line once and more.
 fn every_line(alloc: Global) -> Result<Report, Memory> {
-    let refusal = Refusal {
+    let refusal = RefusedRequest {
         session: session(1, 1, 1),
         at: 65,
         number: 9,
     };
-    let waiting = Waiting {
+    let waiting = WaitingRequest {
         session: session(1, 2, 1),
         at: 5,
     };
@@ -241,14 +263,15 @@ o 9:7f read none
 l 1.2.2 1.2.1 open 1.1.1=1
 o 1:61 read value:78
 l 2.1.5 2.1.4 left -
+l 3.1.9 3.1.2 aborted:1.2.6:7:be03 2.1.4=5
 k 1.2.3 3.1.1 7
 x 1.1.1 65 9
 w 1.2.1 5
-committed 1 strong 1 aborted 0 loose 2 links 1 refused 1 waiting 1
+committed 1 strong 1 aborted 1 loose 3 links 1 refused 1 waiting 1
 ";
 
 const EVERY_LINE_SHORT: &str =
-    "committed 1 strong 1 aborted 0 loose 2 links 1 refused 1 waiting 1\n";
+    "committed 1 strong 1 aborted 1 loose 3 links 1 refused 1 waiting 1\n";
 
 // What is written of a report, over a sink that takes so many bytes at once.
 fn written(

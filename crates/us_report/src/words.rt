@@ -1,5 +1,5 @@
 ghost use Rattle.std.specs.Prelude.{◌≡◌};
-ghost use Rattle.us_report.specs.Text.{kind_text, end_text, strong_count, is_aborted, aborted_count};
+ghost use Rattle.us_report.specs.Text.{kind_text, strong_count, is_aborted, aborted_count};
 
 use std::fmt;
 use us_exec::{Entry, Execution, Loose, LooseEnd, SessionName};
@@ -37,6 +37,10 @@ pub struct OpText<'a>(pub &'a Op);
 /// An answer as it is printed.
 #[derive(Clone, Copy)]
 pub struct AnswerText<'a>(pub &'a Answer);
+
+/// How a transaction stands that isn't committed, as it is printed.
+#[derive(Clone, Copy)]
+pub struct EndText<'a>(pub &'a LooseEnd);
 
 /// How many transactions and links an execution has.
 #[derive(Clone, Copy)]
@@ -171,6 +175,23 @@ impl fmt::Display for AnswerText<'_> {
     }
 }
 
+impl fmt::Display for EndText<'_> {
+    ghost use Rattle.std.specs.Prelude.{Some};
+    ghost use Rattle.us_report.specs.Text.{end_text};
+
+    ghost output = { λ a. Some (end_text a.0.now) };
+
+    fn fmt<W: fmt::Write>(&self, f: &mut fmt::Formatter<W>) -> fmt::Result {
+        match self.0 {
+            LooseEnd::Open => f.write_str("open"),
+            LooseEnd::Left => f.write_str("left"),
+            LooseEnd::Aborted { named, item } => {
+                write!(f, "aborted:{}:{}", TidText(*named), ItemText(item))
+            }
+        }
+    }
+}
+
 impl fmt::Display for CountsText<'_> {
     ghost use Rattle.std.specs.Prelude.{Some};
     ghost use Rattle.us_report.specs.Text.{counts_text};
@@ -199,16 +220,6 @@ pub fn kind_word(strong: bool) -> &'static str
     if strong { "strong" } else { "causal" }
 }
 
-/// How a transaction stands that isn't committed, as it is printed.
-pub fn end_word(end: LooseEnd) -> &'static str
-    ensures { result.now ≡ end_text end }
-{
-    match end {
-        LooseEnd::Open => "open",
-        LooseEnd::Left => "left",
-    }
-}
-
 /// How many of the transactions are strong.
 fn strong_count(entries: &[Entry]) -> usize
     ensures { result ≡ strong_count entries.now }
@@ -222,13 +233,11 @@ fn strong_count(entries: &[Entry]) -> usize
     count
 }
 
-/// Whether the transaction was aborted; no end says so yet.
-fn is_aborted(end: LooseEnd) -> bool
-    ensures { result ≡ is_aborted end }
+/// Whether the transaction was aborted.
+fn is_aborted(end: &LooseEnd) -> bool
+    ensures { result ≡ is_aborted end.now }
 {
-    match end {
-        LooseEnd::Open | LooseEnd::Left => false,
-    }
+    matches!(end, LooseEnd::Aborted { .. })
 }
 
 /// How many of the transactions were aborted.
@@ -237,7 +246,7 @@ fn aborted_count(loose: &[Loose]) -> usize
 {
     let mut count = 0;
     for one in loose {
-        if is_aborted(one.end) {
+        if is_aborted(&one.end) {
             count += 1;
         }
     }
