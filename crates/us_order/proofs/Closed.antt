@@ -6,10 +6,10 @@ use Rattle.us_kind.specs.Words.{In, lex, tid_less}
 use Rattle.us_kind.specs.declared.identity.Tid.{Tid}
 use Rattle.us_base.specs.Vector.{at_most, sum_of}
 use Rattle.us_base.proofs.Vectors.{at_most-true, at_most-trans, sum-at_most, sum-below}
-use Rattle.us_exec.specs.declared.Done.{Done}
 use Rattle.us_exec.specs.declared.Entry.{Entry}
 use Rattle.us_exec.specs.declared.Loose.{Loose}
 use Rattle.us_exec.specs.Past.{is_before}
+use Rattle.us_exec.specs.Conflict.{Declared}
 use Rattle.us_exec.specs.Consistency.{IsClosedPast, StandsBefore, IsClosed, IsOrdered}
 use Rattle.us_model.specs.State.{Partition, Spaces}
 use Rattle.us_model.specs.Executions.{Begun, Committed, History, is_stamped, past_of, ties, precedes, arbitrated, entry_of, entries_of, is_committed, loose_one, loose_of, execution_by}
@@ -242,7 +242,7 @@ closed spaces p l part all = record {
     cs = l.history.committed
 
 -- ORDERED: no transaction is strong
-pub ordered : (declared : Done → Done → Bool) (l : Ledger) → IsOrdered declared (execution_by l.history)
+pub ordered : (declared : Declared) (l : Ledger) → IsOrdered declared (execution_by l.history)
 ordered declared l = record {
   ordered = λ d e i j apart sd se c.
       let f = from_entry l.history.committed (arbitrated l.history.committed) d i in

@@ -1,9 +1,9 @@
 -- What holds after every run of the machine.
-use Rattle.std.specs.Prelude.{◌≡◌, List, Bool}
+use Rattle.std.specs.Prelude.{◌≡◌, List}
 use Rattle.us_kind.specs.Words.{In}
 use Rattle.us_exec.specs.declared.SessionName.{SessionName}
-use Rattle.us_exec.specs.declared.Done.{Done}
 use Rattle.us_exec.specs.Past.{count_in}
+use Rattle.us_exec.specs.Conflict.{Declared}
 use Rattle.us_exec.specs.Consistency.{IsPor}
 use Rattle.us_model.specs.State.{Spaces}
 use Rattle.us_model.specs.Worlds.{Happening, start, run}
@@ -14,7 +14,7 @@ use Rattle.us_exec.specs.WellFormed.{IsWellFormed}
 
 -- whatever spaces are configured, whatever happens, and whatever conflicts are declared, the execution is closed, valued and ordered
 abbrev pub EveryRunIsPor : Type 0
-EveryRunIsPor = (spaces : Spaces) (hs : List Happening) (declared : Done → Done → Bool) → IsPor declared (execution_of (run hs (start spaces)).notes)
+EveryRunIsPor = (spaces : Spaces) (hs : List Happening) (declared : Declared) → IsPor declared (execution_of (run hs (start spaces)).notes)
 
 -- each past counts, of each session, what can be counted in one step
 abbrev pub PastsAreDirect : Type 0
