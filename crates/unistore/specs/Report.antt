@@ -1,5 +1,6 @@
 -- The report of what a text asks for, and what holds of it.
 use Rattle.std.specs.Prelude.{ℕ}
+use Rattle.us_exec.specs.Conflict.{Declared}
 use Rattle.us_exec.specs.Consistency.{IsSound}
 use Rattle.us_report.specs.declared.report.Report.{Report}
 use Rattle.us_world.specs.declared.fault.LinesFault.{LinesFault}
@@ -23,4 +24,4 @@ IsLimitOf script e = IsLimitOfLines script.catalog script.lines e
 -- formed, and consistent whatever conflicts are declared
 pub record IsReportOf (script : Script) (report : Report) : Type 0 where
   pub is : IsWorldReport script.catalog script.lines report
-  pub execution : IsSound report.execution
+  pub execution : (declared : Declared) → IsSound declared report.execution

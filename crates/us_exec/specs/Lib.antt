@@ -3,3 +3,5 @@ pub mod Values
 pub mod WellFormed
 pub mod Conflict
 pub mod Consistency
+pub mod Facts
+pub mod Examples

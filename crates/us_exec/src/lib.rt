@@ -5,6 +5,8 @@ ghost use Rattle.std.specs.Prelude.{◌≡◌, ◌<◌, IfOk, Some, length, slic
 ghost use Rattle.us_exec.specs.declared.Entry.{Entry};
 ghost use Rattle.us_exec.specs.Past.{count_in, is_before};
 
+pub mod counterexamples;
+
 use std::alloc::AllocError;
 use us_kind::{Items, Memory, Tid};
 use us_value::{Answer, Item, Op};

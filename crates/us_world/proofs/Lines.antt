@@ -2,6 +2,7 @@
 use Rattle.std.proofs.Common.{◌≡◌, ◌∙◌, ℕ, ◌+◌, List, [], ◌∷◌, ◌++◌, length, refl, sym, ap, subst, map, inl, inr}
 use Rattle.us_schedule.specs.declared.line.Line.TheVariants as line
 use Rattle.us_report.specs.declared.report.Report.{Report}
+use Rattle.us_exec.specs.Conflict.{Declared}
 use Rattle.us_exec.specs.Consistency.{IsSound}
 use Rattle.us_model.specs.declared.event.Event.TheVariants as event
 use Rattle.us_model.specs.State.{Spaces}
@@ -129,11 +130,12 @@ report_is spaces lines k report so direct is =
     in
     record { world = so.world; leads = so.leads; is = is ∙ report-same k so.world so.stands same }
 
-pub report_sound : (spaces : Spaces) (lines : List Numbered) (report : Report) → EveryRunIsPor → ExecutionsAreWellFormed → IsReportOf spaces lines report → IsSound report.execution
-report_sound spaces lines report por formed is =
+pub report_sound : (spaces : Spaces) (lines : List Numbered) (report : Report) → EveryRunIsPor → ExecutionsAreWellFormed → IsReportOf spaces lines report
+    → (declared : Declared) → IsSound declared report.execution
+report_sound spaces lines report por formed is declared =
     let by = led-by-run lines 0 (start spaces) is.world is.leads in
-    let there : IsSound (execution_of (run by.0 (start spaces)).notes) = record { formed = formed spaces by.0; consistent = por spaces by.0 } in
-    subst (λ (s : Report). IsSound s.execution) (sym is.is) (subst (λ (w : World). IsSound (execution_of w.notes)) (sym by.1) there)
+    let there : IsSound declared (execution_of (run by.0 (start spaces)).notes) = record { formed = formed spaces by.0; consistent = por spaces by.0 declared } in
+    subst (λ (s : Report). IsSound declared s.execution) (sym is.is) (subst (λ (w : World). IsSound declared (execution_of w.notes)) (sym by.1) there)
 
 pub history_ascends : (spaces : Spaces) (lines : List Numbered) (k : Kept) → HasReached spaces lines k → HistoriesAscend → Ascends k.history
 history_ascends spaces lines k so ascend =

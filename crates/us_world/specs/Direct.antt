@@ -1,7 +1,7 @@
 -- What a report has of a history.
-use Rattle.us_report.specs.declared.report.Refusal.{Refusal as Reported}
+use Rattle.us_exec.specs.declared.RefusedRequest.{RefusedRequest}
 use Rattle.us_model.specs.Executions.{Refusal}
 
 -- a refusal as a report has it
-abbrev pub reported : Refusal → Reported
+abbrev pub reported : Refusal → RefusedRequest
 reported r = record { session = r.session; at = r.at; number = r.number }

@@ -2,8 +2,8 @@
 use Rattle.std.specs.Prelude.{◌≡◌, ⊤, ℕ, ◌+◌, List, [], ◌∷◌, length, map, Some, None}
 use Rattle.us_schedule.specs.declared.line.Line.{Line}
 use Rattle.us_schedule.specs.declared.line.Line.TheVariants as line
+use Rattle.us_exec.specs.declared.WaitingRequest.{WaitingRequest}
 use Rattle.us_report.specs.declared.report.Report.{Report}
-use Rattle.us_report.specs.declared.report.Waiting.{Waiting}
 use Rattle.us_model.specs.State.{Spaces}
 use Rattle.us_model.specs.Worlds.{World, Happening, Waits, waits_of, run, start}
 use Rattle.us_model.specs.Executions.{execution_of, refusals_of}
@@ -62,7 +62,7 @@ abbrev pub IsDelivery : ℕ → World → List Happening → Type 0
 IsDelivery number w hs = hs ≡ delivery number w
 
 -- THE REPORT OF A WORLD
-abbrev pub waiting : Waits → Waiting
+abbrev pub waiting : Waits → WaitingRequest
 waiting x = record { session = x.session; at = x.at }
 
 abbrev pub report_of : World → Report

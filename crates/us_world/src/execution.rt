@@ -13,10 +13,9 @@ use crate::history::History;
 use crate::order::{arbitrated, sessions_of};
 use crate::past::past_of;
 use std::alloc::Global;
-use us_exec::{Done, Entry, Execution, Loose, SessionName};
+use us_exec::{Done, Entry, Execution, Loose, RefusedRequest, SessionName};
 use us_index::Listed;
 use us_kind::{Items, Memory, Tid};
-use us_report::Refusal;
 
 /// A committed transaction as an execution has it.
 fn entry_of(
@@ -96,12 +95,12 @@ impl History {
     }
 
     /// The refused requests, in order.
-    pub fn refusals(&self, alloc: Global) -> Result<Items<Refusal>, Memory>
+    pub fn refusals(&self, alloc: Global) -> Result<Items<RefusedRequest>, Memory>
         ensures { IfOk result (λ refusals. refusals ≡ map reported self.now.refused) }
     {
         let mut refusals = Items::new(alloc);
         for request in self.refused() {
-            refusals.push(Refusal {
+            refusals.push(RefusedRequest {
                 session: request.session,
                 at: request.at,
                 number: request.number,

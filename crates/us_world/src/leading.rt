@@ -1,5 +1,6 @@
 //! Lines in turn, and what they come to.
 ghost use Rattle.std.specs.Prelude.{◌≡◌, IfOk, IfErr, OnOk};
+ghost use Rattle.us_exec.specs.Conflict.{Declared};
 ghost use Rattle.us_exec.specs.Consistency.{IsSound};
 ghost use Rattle.us_world.specs.Limits.{OutcomesAreOne};
 ghost use Rattle.us_world.specs.Lines.{AllBuilt, HasReached, fault_at, IsReportOf, IsLimitOf, LeadOn};
@@ -61,7 +62,7 @@ pub fn report_of_lines(
 ) -> Result<Report, LinesFault>
     requires { AllBuilt lines.now }
     ensures report { IfOk result (λ report. IsReportOf catalog lines.now report) }
-    ensures sound { IfOk result (λ report. IsSound report.execution) }
+    ensures sound { (declared : Declared) → IfOk result (λ report. IsSound declared report.execution) }
     ensures limit { IfErr result (λ fault. IsLimitOf catalog lines.now fault) }
 {
     executions_are_direct();

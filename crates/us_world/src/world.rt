@@ -12,9 +12,10 @@ use crate::{History, WorldFault};
 use std::alloc::Global;
 use std::marker::Model;
 use us_base::Limits;
+use us_exec::WaitingRequest;
 use us_kind::{Bytes, Items, Memory};
 use us_peer_wire::Packet;
-use us_report::{Report, Waiting};
+use us_report::Report;
 use us_schedule::Line;
 use us_site::{Event, Note, Site, Unanswered};
 use us_value::Catalog;
@@ -172,12 +173,12 @@ fn first_due(sent: &[Sent], cursor: usize, from: u8, to: u8) -> Option<usize>
 }
 
 /// The sessions that wait, as a report has them.
-fn waiting_of(alloc: Global, waits: &[Unanswered]) -> Result<Items<Waiting>, Memory>
+fn waiting_of(alloc: Global, waits: &[Unanswered]) -> Result<Items<WaitingRequest>, Memory>
     ensures { IfOk result (λ told. told ≡ map waiting waits.now) }
 {
     let mut waiting = Items::new(alloc);
     for wait in waits {
-        waiting.push(Waiting {
+        waiting.push(WaitingRequest {
             session: wait.session,
             at: wait.at,
         })?;
