@@ -1,5 +1,5 @@
 -- Where all tests but one pass, all facts but that one hold; where all pass, the execution is sound.
-use Rattle.std.proofs.Common.{◌≡◌, ◌≢◌, ℕ, ◌⊎◌, inl, inr, List, [], ◌∷◌, Bool, true, false, refl, sym, ap, ◌∙◌, subst}
+use Rattle.std.proofs.Common.{◌≡◌, ◌≢◌, ℕ, inl, inr, List, [], ◌∷◌, Bool, true, false, refl, sym, ap, ◌∙◌}
 use Rattle.std.specs.Prelude.{◌||◌, ◌==◌, slice_index_or}
 use Rattle.std.proofs.lemmas.Bool.{eqb-true}
 use Rattle.us_kind.specs.Words.{In}

@@ -1,5 +1,5 @@
 -- Tests of an execution: where one passes, the fact that it is of holds.
-use Rattle.std.proofs.Common.{◌≡◌, ◌≢◌, ℕ, ◌+◌, ◌<◌, ◌≤◌, ◌⊎◌, inl, inr, List, [], ◌∷◌, ◌++◌, Bool, true, false, length, map, cond, refl, sym, ap, ◌∙◌, subst, arith, true≢false}
+use Rattle.std.proofs.Common.{◌≡◌, ℕ, ◌<◌, ◌≤◌, ◌⊎◌, inl, inr, List, [], ◌∷◌, ◌++◌, Bool, true, false, length, map, cond, refl, sym, ap, ◌∙◌, subst, arith, true≢false}
 use Rattle.std.specs.Prelude.{filter, ◌&&◌, ◌||◌, ◌==◌, nat_lt, nat_le}
 use Rattle.std.specs.List.{range_with_len}
 use Rattle.std.proofs.lemmas.Bool.{eqb-true, and_parts}
@@ -21,8 +21,8 @@ use Rattle.us_exec.specs.declared.Execution.{Execution}
 use Rattle.us_exec.specs.Past.{session_eq, session_less, is_before}
 use Rattle.us_exec.specs.Values.{HaveValues, visible, updates_of, comes_after}
 use Rattle.us_exec.specs.Conflict.{Declared, conflict}
-use Rattle.us_exec.specs.WellFormed.{numbers_of, IsOfCoordinator, AreNumbered, AreOfCoordinators, LooseAreOfCoordinators, AreBegunInOrder, AreNamedOnce, LooseAreNamedOnce, AreNamedApart, NamesEachOnce, CountsFromOne, CountsWithin}
-use Rattle.us_exec.specs.Consistency.{HoldsLinked, HoldsWhatIsBefore, HoldSessions, LooseHoldSessions, StandsBefore, StandInOrder, AnswersHaveValues, LooseAnswersHaveValues, IsOrdered}
+use Rattle.us_exec.specs.WellFormed.{numbers_of, IsOfCoordinator, AreNumbered, NamesEachOnce, CountsFromOne, CountsWithin}
+use Rattle.us_exec.specs.Consistency.{HoldsLinked, HoldsWhatIsBefore, StandsBefore, IsOrdered}
 use Rattle.us_exec.specs.Facts.{Fact, Numbered, OfCoordinators, LooseOfCoordinators, BegunInOrder, NamedOnce, LooseNamedOnce, NamedApart, CountedOnce, CountedFromOne, CountedWithin, LooseCountedOnce, LooseCountedFromOne, LooseCountedWithin, Linked, LooseLinked, Transitive, LooseTransitive, InSession, LooseInSession, InOrder, Valued, LooseValued, Ordered}
 use Rattle.us_exec.specs.Facts.{Says}
 

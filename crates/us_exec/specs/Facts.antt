@@ -1,5 +1,5 @@
 -- What sound says, fact by fact, so that an execution can be shown to lack one of them alone.
-use Rattle.std.specs.Prelude.{◌≡◌, ◌≢◌, ◌↔◌}
+use Rattle.std.specs.Prelude.{◌≢◌, ◌↔◌}
 use Rattle.us_kind.specs.Words.{In}
 use Rattle.us_exec.specs.declared.Entry.{Entry}
 use Rattle.us_exec.specs.declared.Loose.{Loose}
