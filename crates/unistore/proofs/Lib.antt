@@ -2,4 +2,5 @@ mod Reading
 mod Texts
 mod Causes
 mod Sure
+mod Complete
 pub mod Built

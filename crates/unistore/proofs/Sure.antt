@@ -16,13 +16,13 @@ use Rattle.unistore.specs.declared.status.Status.TheVariants.{Done, Words, Input
 use Rattle.unistore.specs.Answers.{SourceState, SinkState, Came, FailsIn, Performs, Performed, Refuses, Passed, RunsOut, Tells, RefusesLength, AnswersForm, input, status_of_kind, IsStatusOf, IsSure}
 use Rattle.unistore.specs.Schedule.{schedule_of}
 
-given_whole : (bytes text : List ℕ) (after : Option (List ℕ)) → Some bytes ≡ prepended text after → IsAtEnd after → text ≡ bytes
+pub given_whole : (bytes text : List ℕ) (after : Option (List ℕ)) → Some bytes ≡ prepended text after → IsAtEnd after → text ≡ bytes
 given_whole bytes text None e end = absurd (cc)
 given_whole bytes text (Some left) e end =
     let f : bytes ≡ text ++ left = cc in
     sym (f ∙ ap (λ (xs : List ℕ). text ++ xs) end ∙ append-nil text)
 
-given_more : (bytes came : List ℕ) (after : Option (List ℕ)) → Some bytes ≡ prepended came after → length came ≤ length bytes
+pub given_more : (bytes came : List ℕ) (after : Option (List ℕ)) → Some bytes ≡ prepended came after → length came ≤ length bytes
 given_more bytes came None e = absurd (cc)
 given_more bytes came (Some left) e =
     let f : bytes ≡ came ++ left = cc in

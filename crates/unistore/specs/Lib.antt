@@ -3,3 +3,4 @@ pub mod Report
 pub mod Status
 pub mod Answers
 pub mod Built
+pub mod Completeness

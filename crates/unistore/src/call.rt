@@ -1,5 +1,6 @@
 ghost use Rattle.std.specs.Prelude.{◌≡◌, ◌≢◌, ◌⊎◌, None, map, string_bytes};
 ghost use Rattle.us_edge.specs.Faults.{Rose};
+ghost use Rattle.unistore.specs.Completeness.{IsAccepted};
 ghost use Rattle.unistore.specs.Answers.{form_of, Answers, IsDone, IsRefusedInput, IsLimited, IfInput, IfLimit};
 
 use crate::Status;
@@ -33,6 +34,11 @@ pub fn unistore<S: Source, K: Sink, L: Links, C: Clock>(
     ensures input { IfInput result (λ line reason. IsRefusedInput (S.left source.old) (S.left source.new) (K.written sink.old) (K.written sink.new) line reason) }
     ensures limit { IfLimit result (λ which line. IsLimited (S.left source.old) (S.left source.new) (K.written sink.old) (K.written sink.new) which line) }
     ensures linked { result ≢ Status.LinkFault }
+
+    // Complete: where the words are a form, nothing in the text is refused, no limit is passed and no count of faults rises.
+    ensures complete { IsAccepted (form_of (map string_bytes words.now)) (S.left source.old)
+        → ¬ Rose (S.faults source.old) (S.faults source.new) → ¬ Rose (K.faults sink.old) (K.faults sink.new)
+        → (result ≡ Status.Done) ⊎ (result ≡ Status.Memory) }
 
     // What isn't used stays.
     ensures unread { form_of (map string_bytes words.now) ≡ None → source.new ≡ source.old }

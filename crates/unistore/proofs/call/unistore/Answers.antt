@@ -4,6 +4,7 @@ use Rattle.unistore.specs.declared.form.Form.TheVariants.{Replay}
 use Rattle.unistore.specs.declared.status.Status.{Status}
 use Rattle.unistore.specs.Answers.{SourceState, SinkState, AnswersForm, Replays, form_of, is_short}
 use Rattle.unistore.proofs.Causes.{form_is, words_only, no_form, not_linked, is_done, read_failed, write_failed, is_input, is_limit}
+use Rattle.unistore.proofs.Complete.{done_or_memory}
 use Rattle.unistore.proofs.call.unistore.Goals as goal
 
 pub returns-in-None-clause-answers : goal.returns-in-None-clause-answers
@@ -180,3 +181,21 @@ returns-in-Some-clause-linked g c =
     let l : SinkState = record { written = g.K.Sink.written c.replay.new.sink; faults = g.K.Sink.faults c.replay.new.sink } in
     let P : Status → Type 0 = λ status. AnswersForm form s t k l status in
     λ e. not_linked form s t k l (subst P e (returns-in-Some-clause-answers g c))
+
+pub returns-in-None-clause-complete : goal.returns-in-None-clause-complete
+returns-in-None-clause-complete g c =
+    let form = form_of (map string_bytes c.args.words.now) in
+    let s : SourceState = record { left = g.S.Source.left c.args.source.now; faults = g.S.Source.faults c.args.source.now } in
+    let t : SourceState = record { left = g.S.Source.left c.args.source.now; faults = g.S.Source.faults c.args.source.now } in
+    let k : SinkState = record { written = g.K.Sink.written c.args.sink.now; faults = g.K.Sink.faults c.args.sink.now } in
+    let l : SinkState = record { written = g.K.Sink.written c.refuse_words.new.sink; faults = g.K.Sink.faults c.refuse_words.new.sink } in
+    done_or_memory form s t k l c.refuse_words.result (returns-in-None-clause-answers g c)
+
+pub returns-in-Some-clause-complete : goal.returns-in-Some-clause-complete
+returns-in-Some-clause-complete g c =
+    let form = form_of (map string_bytes c.args.words.now) in
+    let s : SourceState = record { left = g.S.Source.left c.args.source.now; faults = g.S.Source.faults c.args.source.now } in
+    let t : SourceState = record { left = g.S.Source.left c.replay.new.source; faults = g.S.Source.faults c.replay.new.source } in
+    let k : SinkState = record { written = g.K.Sink.written c.args.sink.now; faults = g.K.Sink.faults c.args.sink.now } in
+    let l : SinkState = record { written = g.K.Sink.written c.replay.new.sink; faults = g.K.Sink.faults c.replay.new.sink } in
+    done_or_memory form s t k l c.replay.result (returns-in-Some-clause-answers g c)
