@@ -7,12 +7,16 @@ use Rattle.us_exec.specs.declared.Execution.{Execution}
 use Rattle.us_exec.specs.Conflict.{Declared}
 use Rattle.us_exec.specs.Consistency.{IsSound}
 use Rattle.us_exec.specs.Facts.{Fact, Numbered, OfCoordinators, LooseOfCoordinators, BegunInOrder, NamedOnce, LooseNamedOnce, NamedApart, CountedOnce, CountedFromOne, CountedWithin, LooseCountedOnce, LooseCountedFromOne, LooseCountedWithin, Linked, LooseLinked, Transitive, LooseTransitive, InSession, LooseInSession, InOrder, Valued, LooseValued, Ordered}
-use Rattle.us_exec.specs.Facts.{Says, SoundIsEveryFact}
+use Rattle.us_exec.specs.Facts.{Says, LacksOnly, SoundIsEveryFact}
 use Rattle.us_exec.proofs.Checks.{every, every_in, test, says}
 
 -- every fact
 abbrev facts : List Fact
-facts = Numbered ∷ OfCoordinators ∷ LooseOfCoordinators ∷ BegunInOrder ∷ NamedOnce ∷ LooseNamedOnce ∷ NamedApart ∷ CountedOnce ∷ CountedFromOne ∷ CountedWithin ∷ LooseCountedOnce ∷ LooseCountedFromOne ∷ LooseCountedWithin ∷ Linked ∷ LooseLinked ∷ Transitive ∷ LooseTransitive ∷ InSession ∷ LooseInSession ∷ InOrder ∷ Valued ∷ LooseValued ∷ Ordered ∷ []
+facts =
+    Numbered ∷ OfCoordinators ∷ LooseOfCoordinators ∷ BegunInOrder ∷ NamedOnce ∷ LooseNamedOnce ∷ NamedApart
+    ∷ CountedOnce ∷ CountedFromOne ∷ CountedWithin ∷ LooseCountedOnce ∷ LooseCountedFromOne ∷ LooseCountedWithin
+    ∷ Linked ∷ LooseLinked ∷ Transitive ∷ LooseTransitive ∷ InSession ∷ LooseInSession ∷ InOrder
+    ∷ Valued ∷ LooseValued ∷ Ordered ∷ []
 
 in_facts : (fact : Fact) → In fact facts
 in_facts Numbered = inl refl
@@ -100,13 +104,18 @@ same_fact a b h = sym (fact_at-place a) ∙ ap fact_at (eqb-true _ _ h) ∙ fact
 abbrev pub others_pass : Fact → Declared → Execution → Bool
 others_pass fact declared x = every (λ (other : Fact). (place other == place fact) || test other declared x) facts
 
-pub others_hold : (fact : Fact) (declared : Declared) (x : Execution) → others_pass fact declared x ≡ true → (other : Fact) → other ≢ fact → Says other declared x
+others_hold : (fact : Fact) (declared : Declared) (x : Execution) → others_pass fact declared x ≡ true
+    → (other : Fact) → other ≢ fact → Says other declared x
 others_hold fact declared x h other apart =
-    on (place other == place fact) refl (every_in (λ (other : Fact). (place other == place fact) || test other declared x) facts other h (in_facts other))
+    on (place other == place fact) refl (every_in (λ (o : Fact). (place o == place fact) || test o declared x) facts other h (in_facts other))
   where
     on : (b : Bool) → (place other == place fact) ≡ b → (b || test other declared x) ≡ true → Says other declared x
     on true same t = absurd (apart (same_fact other fact same))
     on false same t = says other declared x t
+
+pub lacks_only : (fact : Fact) (declared : Declared) (x : Execution) → others_pass fact declared x ≡ true → (Says fact declared x → ⊥)
+    → LacksOnly fact declared x
+lacks_only fact declared x h lacks = record { lacks = lacks; others = others_hold fact declared x h }
 
 -- sound is all facts
 pub from_facts : (declared : Declared) (x : Execution) → ((fact : Fact) → Says fact declared x) → IsSound declared x
@@ -168,4 +177,4 @@ abbrev pub all_pass : Declared → Execution → Bool
 all_pass declared x = every (λ (fact : Fact). test fact declared x) facts
 
 pub is_sound : (declared : Declared) (x : Execution) → all_pass declared x ≡ true → IsSound declared x
-is_sound declared x h = from_facts declared x (λ fact. says fact declared x (every_in (λ (fact : Fact). test fact declared x) facts fact h (in_facts fact)))
+is_sound declared x h = from_facts declared x (λ fact. says fact declared x (every_in (λ (f : Fact). test f declared x) facts fact h (in_facts fact)))

@@ -113,10 +113,11 @@ named_or_none s (e ∷ es) = on (session_eq e.session s) refl (named_or_none s e
 numbered : (x : Execution) → numbered_test x ≡ true → AreNumbered x
 numbered x h s = on (named_or_none s x.entries)
   where
-    on : ((e : Entry) × In e x.entries × (e.session ≡ s)) ⊎ (numbers_of s x.entries ≡ []) → numbers_of s x.entries ≡ range_with_len 1 (length (numbers_of s x.entries))
+    on : ((e : Entry) × In e x.entries × (e.session ≡ s)) ⊎ (numbers_of s x.entries ≡ [])
+        → numbers_of s x.entries ≡ range_with_len 1 (length (numbers_of s x.entries))
     on (inl (e, i, is)) =
         subst (λ (t : SessionName). numbers_of t x.entries ≡ range_with_len 1 (length (numbers_of t x.entries))) is
-        (bytes_eq-true _ _ (every_in (λ (e : Entry). bytes_eq (numbers_of e.session x.entries) (range_with_len 1 (length (numbers_of e.session x.entries)))) x.entries e h i))
+        (bytes_eq-true _ _ (every_in _ _ e h i))
     on (inr none) = subst (λ (ns : List ℕ). ns ≡ range_with_len 1 (length ns)) (sym none) refl
 
 abbrev coordinator_test : Tid → SessionName → Bool
@@ -137,13 +138,14 @@ apart_test s t = implied (tid_eq s t) false
 apart_of : (s t : Tid) → apart_test s t ≡ true → s ≡ t → ⊥
 apart_of s t h e = true≢false (sym (follow (tid_eq s t) false h (one_tid s t e)))
 
-once_of : (es : List Entry) → each_later (λ (d e : Entry). apart_test d.tid e.tid) es ≡ true → (d e : Entry) → In d es → In e es → d.tid ≡ e.tid → d ≡ e
+once_of : (es : List Entry) → each_later (λ (d e : Entry). apart_test d.tid e.tid) es ≡ true
+    → (d e : Entry) → In d es → In e es → d.tid ≡ e.tid → d ≡ e
 once_of [] h d e i j same = absurd i
 once_of (x ∷ xs) h d e (inl p) (inl q) same = sym p ∙ q
 once_of (x ∷ xs) h d e (inl p) (inr j) same =
-    absurd (apart_of x.tid e.tid (every_in (λ (y : Entry). apart_test x.tid y.tid) xs e (and_parts _ _ h).0 j) (ap (λ (y : Entry). y.tid) p ∙ same))
+    absurd (apart_of x.tid e.tid (every_in _ _ e (and_parts _ _ h).0 j) (ap (λ (y : Entry). y.tid) p ∙ same))
 once_of (x ∷ xs) h d e (inr i) (inl q) same =
-    absurd (apart_of x.tid d.tid (every_in (λ (y : Entry). apart_test x.tid y.tid) xs d (and_parts _ _ h).0 i) (ap (λ (y : Entry). y.tid) q ∙ sym same))
+    absurd (apart_of x.tid d.tid (every_in _ _ d (and_parts _ _ h).0 i) (ap (λ (y : Entry). y.tid) q ∙ sym same))
 once_of (x ∷ xs) h d e (inr i) (inr j) same = once_of xs (and_parts _ _ h).1 d e i j same
 
 abbrev once_test : List Count → Bool
@@ -156,32 +158,33 @@ abbrev from_one_test : List Count → Bool
 from_one_test past = every (λ (c : Count). nat_le 1 c.count) past
 
 from_one : (past : List Count) → from_one_test past ≡ true → CountsFromOne past
-from_one past h c i = is_at_most _ _ (every_in (λ (c : Count). nat_le 1 c.count) past c h i)
+from_one past h c i = is_at_most _ _ (every_in _ _ c h i)
 
 abbrev within_test : List Entry → List Count → Bool
 within_test es past = every (λ (c : Count). nat_le c.count (length (numbers_of c.session es))) past
 
 within : (es : List Entry) (past : List Count) → within_test es past ≡ true → CountsWithin es past
-within es past h c i = is_at_most _ _ (every_in (λ (c : Count). nat_le c.count (length (numbers_of c.session es))) past c h i)
+within es past h c i = is_at_most _ _ (every_in _ _ c h i)
 
 -- ---- closed
 
 abbrev link_test : SessionName → List Count → Link → Entry → Bool
-link_test session past l e = implied (session_eq l.session session) (implied (session_eq e.session l.from) (implied (nat_le e.number l.count) (is_before e past)))
+link_test session past l e =
+    implied (session_eq l.session session) (implied (session_eq e.session l.from) (implied (nat_le e.number l.count) (is_before e past)))
 
 abbrev linked_test : Execution → SessionName → List Count → Bool
 linked_test x session past = every (λ (l : Link). every (link_test session past l) x.entries) x.links
 
 linked : (x : Execution) (session : SessionName) (past : List Count) → linked_test x session past ≡ true → HoldsLinked x session past
 linked x session past h l e i j s f n =
-    follow _ _ (follow _ _ (follow _ _ (every_in (link_test session past l) x.entries e (every_in (λ (l : Link). every (link_test session past l) x.entries) x.links l h i) j) (one_session _ _ s)) (one_session _ _ f)) (at_most _ _ n)
+    follow _ _ (follow _ _ (follow _ _ (every_in _ _ e (every_in _ _ l h i) j) (one_session _ _ s)) (one_session _ _ f)) (at_most _ _ n)
 
 -- of each two committed transactions
 abbrev each_two : (Entry → Entry → Bool) → Execution → Bool
 each_two t x = every (λ (d : Entry). every (t d) x.entries) x.entries
 
 two_in : (t : Entry → Entry → Bool) (x : Execution) (d e : Entry) → each_two t x ≡ true → In d x.entries → In e x.entries → t d e ≡ true
-two_in t x d e h i j = every_in (t d) x.entries e (every_in (λ (d : Entry). every (t d) x.entries) x.entries d h i) j
+two_in t x d e h i j = every_in _ _ e (every_in _ _ d h i) j
 
 abbrev step_test : List Count → Entry → Entry → Bool
 step_test past d e = implied (is_before d e.past) (implied (is_before e past) (is_before d past))
@@ -209,10 +212,12 @@ seen_not past d h b = true≢false (sym (follow _ _ h b))
 in_order : (es : List Entry) → order_test es ≡ true → (d e : Entry) → In d es → In e es → is_before d e.past ≡ true → StandsBefore d e es
 in_order [] h d e i j b = absurd i
 in_order (x ∷ xs) h d e (inl p) (inl q) b =
-    absurd (seen_not x.past x (and_parts _ _ h).0 (subst (λ (y : Entry). is_before y x.past ≡ true) (sym p) (subst (λ (y : Entry). is_before d y.past ≡ true) (sym q) b)))
+    let own = subst (λ (y : Entry). is_before d y.past ≡ true) (sym q) b in
+    absurd (seen_not x.past x (and_parts _ _ h).0 (subst (λ (y : Entry). is_before y x.past ≡ true) (sym p) own))
 in_order (x ∷ xs) h d e (inl p) (inr j) b = inl (p, j)
 in_order (x ∷ xs) h d e (inr i) (inl q) b =
-    absurd (seen_not x.past d (every_in (unseen_by x.past) xs d (and_parts _ _ (and_parts _ _ h).1).0 i) (subst (λ (y : Entry). is_before d y.past ≡ true) (sym q) b))
+    let own = subst (λ (y : Entry). is_before d y.past ≡ true) (sym q) b in
+    absurd (seen_not x.past d (every_in _ _ d (and_parts _ _ (and_parts _ _ h).1).0 i) own)
 in_order (x ∷ xs) h d e (inr i) (inr j) b = inr (in_order xs (and_parts _ _ (and_parts _ _ h).1).1 d e i j b)
 
 -- ---- valued
@@ -279,7 +284,8 @@ values_test es tid past earlier (d ∷ ds) =
     answer_test d.answer (value_of d.op (visible d.item past es ++ updates_of tid d.item earlier) (comes_after es tid past))
     && values_test es tid past (earlier ++ d ∷ []) ds
 
-have_values : (es : List Entry) (tid : Tid) (past : List Count) (earlier ds : List Done) → values_test es tid past earlier ds ≡ true → HaveValues es tid past earlier ds
+have_values : (es : List Entry) (tid : Tid) (past : List Count) (earlier ds : List Done) → values_test es tid past earlier ds ≡ true
+    → HaveValues es tid past earlier ds
 have_values es tid past earlier [] h = tt
 have_values es tid past earlier (d ∷ ds) h = (one_answer _ _ (and_parts _ _ h).0, have_values es tid past (earlier ++ d ∷ []) ds (and_parts _ _ h).1)
 
@@ -299,7 +305,9 @@ not_first false b h e = h
 
 ordered : (declared : Declared) (x : Execution) → each_two (ordered_test declared) x ≡ true → IsOrdered declared x
 ordered declared x h = record {
-  ordered = λ d e i j apart sd se c. either _ _ (not_first (tid_eq d.tid e.tid) _ (follow _ _ (follow _ _ (follow _ _ (two_in (ordered_test declared) x d e h i j) sd) se) c) apart);
+  ordered = λ d e i j apart sd se c.
+      let either_way = follow _ _ (follow _ _ (follow _ _ (two_in (ordered_test declared) x d e h i j) sd) se) c in
+      either _ _ (not_first (tid_eq d.tid e.tid) _ either_way apart);
 }
 
 -- ---- each fact
@@ -331,27 +339,27 @@ test Ordered declared x = each_two (ordered_test declared) x
 
 pub says : (fact : Fact) (declared : Declared) (x : Execution) → test fact declared x ≡ true → Says fact declared x
 says Numbered declared x h = numbered x h
-says OfCoordinators declared x h = λ e i. of_coordinator _ _ (every_in (λ (e : Entry). coordinator_test e.tid e.session) x.entries e h i)
-says LooseOfCoordinators declared x h = λ l i. of_coordinator _ _ (every_in (λ (l : Loose). coordinator_test l.tid l.session) x.loose l h i)
+says OfCoordinators declared x h = λ e i. of_coordinator _ _ (every_in _ _ e h i)
+says LooseOfCoordinators declared x h = λ l i. of_coordinator _ _ (every_in _ _ l h i)
 says BegunInOrder declared x h = λ d e i j. begun_of d e (two_in begun_test x d e h i j)
 says NamedOnce declared x h = once_of x.entries h
 says LooseNamedOnce declared x h = later_of _ _ (λ (l m : Loose) t. apart_of l.tid m.tid t) x.loose h
 says NamedApart declared x h = λ e l i j.
-    apart_of e.tid l.tid (every_in (λ (l : Loose). apart_test e.tid l.tid) x.loose l (every_in (λ (e : Entry). every (λ (l : Loose). apart_test e.tid l.tid) x.loose) x.entries e h i) j)
-says CountedOnce declared x h = λ e i. named_once e.past (every_in (λ (e : Entry). once_test e.past) x.entries e h i)
-says CountedFromOne declared x h = λ e i. from_one e.past (every_in (λ (e : Entry). from_one_test e.past) x.entries e h i)
-says CountedWithin declared x h = λ e i. within x.entries e.past (every_in (λ (e : Entry). within_test x.entries e.past) x.entries e h i)
-says LooseCountedOnce declared x h = λ l i. named_once l.past (every_in (λ (l : Loose). once_test l.past) x.loose l h i)
-says LooseCountedFromOne declared x h = λ l i. from_one l.past (every_in (λ (l : Loose). from_one_test l.past) x.loose l h i)
-says LooseCountedWithin declared x h = λ l i. within x.entries l.past (every_in (λ (l : Loose). within_test x.entries l.past) x.loose l h i)
-says Linked declared x h = λ e i. linked x e.session e.past (every_in (λ (e : Entry). linked_test x e.session e.past) x.entries e h i)
-says LooseLinked declared x h = λ l i. linked x l.session l.past (every_in (λ (l : Loose). linked_test x l.session l.past) x.loose l h i)
-says Transitive declared x h = λ e i. held x e.past (every_in (λ (e : Entry). each_two (step_test e.past) x) x.entries e h i)
-says LooseTransitive declared x h = λ l i. held x l.past (every_in (λ (l : Loose). each_two (step_test l.past) x) x.loose l h i)
+    apart_of e.tid l.tid (every_in _ _ l (every_in _ _ e h i) j)
+says CountedOnce declared x h = λ e i. named_once e.past (every_in _ _ e h i)
+says CountedFromOne declared x h = λ e i. from_one e.past (every_in _ _ e h i)
+says CountedWithin declared x h = λ e i. within x.entries e.past (every_in _ _ e h i)
+says LooseCountedOnce declared x h = λ l i. named_once l.past (every_in _ _ l h i)
+says LooseCountedFromOne declared x h = λ l i. from_one l.past (every_in _ _ l h i)
+says LooseCountedWithin declared x h = λ l i. within x.entries l.past (every_in _ _ l h i)
+says Linked declared x h = λ e i. linked x e.session e.past (every_in _ _ e h i)
+says LooseLinked declared x h = λ l i. linked x l.session l.past (every_in _ _ l h i)
+says Transitive declared x h = λ e i. held x e.past (every_in _ _ e h i)
+says LooseTransitive declared x h = λ l i. held x l.past (every_in _ _ l h i)
 says InSession declared x h = λ d e i j s n. follow _ _ (follow _ _ (two_in session_test x d e h i j) (one_session _ _ s)) (less _ _ n)
 says LooseInSession declared x h = λ d l i j s n.
-    follow _ _ (follow _ _ (every_in (loose_session_test l) x.entries d (every_in (λ (l : Loose). every (loose_session_test l) x.entries) x.loose l h j) i) (one_session _ _ s)) (less _ _ n)
+    follow _ _ (follow _ _ (every_in _ _ d (every_in _ _ l h j) i) (one_session _ _ s)) (less _ _ n)
 says InOrder declared x h = in_order x.entries h
-says Valued declared x h = λ e i. have_values x.entries e.tid e.past [] e.ops (every_in (λ (e : Entry). values_test x.entries e.tid e.past [] e.ops) x.entries e h i)
-says LooseValued declared x h = λ l i. have_values x.entries l.tid l.past [] l.ops (every_in (λ (l : Loose). values_test x.entries l.tid l.past [] l.ops) x.loose l h i)
+says Valued declared x h = λ e i. have_values x.entries e.tid e.past [] e.ops (every_in _ _ e h i)
+says LooseValued declared x h = λ l i. have_values x.entries l.tid l.past [] l.ops (every_in _ _ l h i)
 says Ordered declared x h = ordered declared x h

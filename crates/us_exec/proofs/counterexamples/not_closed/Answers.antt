@@ -3,7 +3,7 @@ use Rattle.us_exec.specs.declared.Entry.{Entry}
 use Rattle.us_exec.specs.Consistency.{StandsBefore}
 use Rattle.us_exec.specs.Facts.{Linked, LooseLinked, Transitive, LooseTransitive, InSession, LooseInSession, InOrder}
 use Rattle.us_exec.specs.Examples.{reads_and_writes, writer, second_has_first, overlooked_link, loose_overlooked_link, overlooked_step, loose_overlooked_step, overlooked_past, loose_overlooked_past, wrong_order}
-use Rattle.us_exec.proofs.Alone.{others_hold}
+use Rattle.us_exec.proofs.Alone.{lacks_only}
 use Rattle.us_exec.proofs.counterexamples.not_closed.Goals as goal
 
 other : second_has_first ≡ writer → ⊥
@@ -16,11 +16,18 @@ not_before (inr (inr i)) = absurd i
 
 pub returns : goal.returns
 returns c = record {
-  link = record { lacks = λ h. true≢false (sym (h _ (inr (inl refl)) _ _ (inl refl) (inl refl) refl refl (omega arith))); others = others_hold Linked reads_and_writes overlooked_link refl };
-  loose_link = record { lacks = λ h. true≢false (sym (h _ (inl refl) _ _ (inl refl) (inl refl) refl refl (omega arith))); others = others_hold LooseLinked reads_and_writes loose_overlooked_link refl };
-  step = record { lacks = λ h. true≢false (sym (h _ (inr (inr (inl refl))) _ _ (inl refl) (inr (inl refl)) refl refl)); others = others_hold Transitive reads_and_writes overlooked_step refl };
-  loose_step = record { lacks = λ h. true≢false (sym (h _ (inl refl) _ _ (inl refl) (inr (inl refl)) refl refl)); others = others_hold LooseTransitive reads_and_writes loose_overlooked_step refl };
-  session = record { lacks = λ h. true≢false (sym (h _ _ (inl refl) (inr (inl refl)) refl (omega arith))); others = others_hold InSession reads_and_writes overlooked_past refl };
-  loose_session = record { lacks = λ h. true≢false (sym (h _ _ (inl refl) (inl refl) refl (omega arith))); others = others_hold LooseInSession reads_and_writes loose_overlooked_past refl };
-  order = record { lacks = λ h. not_before (h writer second_has_first (inr (inl refl)) (inl refl) refl); others = others_hold InOrder reads_and_writes wrong_order refl };
+  link = lacks_only Linked reads_and_writes overlooked_link refl
+      (λ h. true≢false (sym (h _ (inr (inl refl)) _ _ (inl refl) (inl refl) refl refl (omega arith))));
+  loose_link = lacks_only LooseLinked reads_and_writes loose_overlooked_link refl
+      (λ h. true≢false (sym (h _ (inl refl) _ _ (inl refl) (inl refl) refl refl (omega arith))));
+  step = lacks_only Transitive reads_and_writes overlooked_step refl
+      (λ h. true≢false (sym (h _ (inr (inr (inl refl))) _ _ (inl refl) (inr (inl refl)) refl refl)));
+  loose_step = lacks_only LooseTransitive reads_and_writes loose_overlooked_step refl
+      (λ h. true≢false (sym (h _ (inl refl) _ _ (inl refl) (inr (inl refl)) refl refl)));
+  session = lacks_only InSession reads_and_writes overlooked_past refl
+      (λ h. true≢false (sym (h _ _ (inl refl) (inr (inl refl)) refl (omega arith))));
+  loose_session = lacks_only LooseInSession reads_and_writes loose_overlooked_past refl
+      (λ h. true≢false (sym (h _ _ (inl refl) (inl refl) refl (omega arith))));
+  order = lacks_only InOrder reads_and_writes wrong_order refl
+      (λ h. not_before (h writer second_has_first (inr (inl refl)) (inl refl) refl));
 }
