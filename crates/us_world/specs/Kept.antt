@@ -67,7 +67,7 @@ pub record HasStepped (place : ℕ) (e : Event) (old new : List Served) (out : O
   pub site : Site
   pub at : slice_get (map site_of old) place ≡ Some site
   pub sites : map site_of new ≡ slice_set (map site_of old) place (site_step site e).site
-  pub out : out ≡ (site_step site e).out
+  pub gives : out ≡ (site_step site e).out
 
 -- what is kept after a step of the site with this number
 abbrev pub after_step : ℕ → Kept → Stepped → Kept
