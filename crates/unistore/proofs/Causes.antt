@@ -119,7 +119,7 @@ input_of short s t k l text (Refused refusal) line reason came e h =
 input_of short s t k l text (Read script refused) line reason came e (inl h) = absurd h.says
 input_of short s t k l text (Read script None) line reason came e (inr (inl h)) = absurd h.tells
 input_of short s t k l text (Read script (Some refusal)) line reason came e (inr (inl h)) =
-    input_at s t k l text refusal line reason came (subst (λ (x : Schedule). IsRefusedAt x refusal) (sym e) (h.lead, refl)) h.refuses
+    input_at s t k l text refusal line reason came (subst (λ (x : Schedule). IsRefusedAt x refusal) (sym e) (h.world, refl)) h.refuses
 input_of short s t k l text (Read script refused) line reason came e (inr (inr h)) = absurd h
 
 pub is_input : (form : Option Form) (s t : SourceState) (k l : SinkState) (status : Status) → AnswersForm form s t k l status

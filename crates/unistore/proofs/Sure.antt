@@ -86,9 +86,9 @@ performed short k l (Refused refusal) status z y h = refuses refusal k l status 
 performed short k l (Read script refused) status z y (inl h) =
     map_left (λ e. inr (record { line = h.line; passed = h.passed; pass = h.pass; is = e ∙ sym (ap (λ o. status_of_kind o h.line) h.kind) })) (passed h.which h.line k l status z y h.says)
 performed short k l (Read script None) status z y (inr (inl h)) =
-    map_left (λ e. inl (record { world = h.is.is.world; leads = h.is.is.leads }, e)) (tells short h.report k l status z y h.tells)
+    map_left (λ e. inl (record { world = h.is.is.world; is = h.is.is.reached }, e)) (tells short h.report k l status z y h.tells)
 performed short k l (Read script (Some refusal)) status z y (inr (inl h)) =
-    map_left (λ e. inl (h.lead, e)) (refuses refusal k l status z y h.refuses)
+    map_left (λ e. inl (h.world, e)) (refuses refusal k l status z y h.refuses)
 performed short k l (Read script refused) status z y (inr (inr h)) = inr (runs_out k l status h)
 
 performs : (short : Bool) (bytes : List ℕ) (s t : SourceState) (k l : SinkState) (status : Status) → s.left ≡ Some bytes → k.faults ≡ 0 → l.faults ≡ 0 → Performed short s t k l status

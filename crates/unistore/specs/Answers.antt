@@ -19,7 +19,7 @@ use Rattle.unistore.specs.declared.status.LimitKind.{LimitKind}
 use Rattle.unistore.specs.declared.status.Reason.{Reason}
 use Rattle.unistore.specs.declared.status.Status.{Status}
 use Rattle.unistore.specs.declared.status.Status.TheVariants.{Done, Words, Input, ReadFault, WriteFault, Memory, Limit}
-use Rattle.unistore.specs.Report.{IsReportOf, LeadOn, PassAt}
+use Rattle.unistore.specs.Report.{IsReportOf, HaveWorld, PassAt}
 use Rattle.unistore.specs.Schedule.{schedule_of}
 use Rattle.unistore.specs.Status.{kind_of, refusal_text}
 
@@ -124,15 +124,15 @@ Tells short report before after WriteFault = FailsIn before after (text_of short
 Tells short report before after Memory = AppendsPrefix before.written after.written (text_of short report)
 Tells short report before after _ = ⊥
 
--- the lines lead to a world, and its report is told
+-- the lines have a world, and its report is told
 pub record Reports (short : Bool) (script : Script) (before after : SinkState) (status : Status) : Type 0 where
   pub report : Report
   pub is : IsReportOf script report
   pub tells : Tells short report before after status
 
--- the lines lead to a world, and then the line behind them is refused
+-- the lines have a world, and then the line behind them is refused
 pub record RefusesBehind (script : Script) (refusal : Refusal) (before after : SinkState) (status : Status) : Type 0 where
-  pub lead : LeadOn script
+  pub world : HaveWorld script
   pub refuses : Refuses refusal before after status
 
 -- the lines pass a limit
@@ -222,10 +222,10 @@ pub record IsDone (asked : Option Form) (left left_after written written_after :
   pub is : IsReportOf script report
   pub whole : Appends written written_after (text_of short report)
 
--- where a text is refused: before any line is performed, or behind lines that lead to a world
+-- where a text is refused: before any line is performed, or behind lines that have a world
 abbrev pub IsRefusedAt : Schedule → Refusal → Type 0
 IsRefusedAt (Refused refusal) at = refusal ≡ at
-IsRefusedAt (Read script refused) at = LeadOn script × (refused ≡ Some at)
+IsRefusedAt (Read script refused) at = HaveWorld script × (refused ≡ Some at)
 
 -- the text was read whole, it is refused there, and the line of that refusal was written whole
 pub record IsRefusedInput (left left_after written written_after : Option (List ℕ)) (line : ℕ) (reason : Reason) : Type 0 where
@@ -271,7 +271,7 @@ abbrev pub status_of_kind : Option LimitKind → ℕ → Status
 status_of_kind (Some which) line = Limit which line
 status_of_kind None line = Memory
 
--- the status behind lines that lead to a world
+-- the status behind lines that have a world
 abbrev pub status_behind : Option Refusal → Status
 status_behind None = Done
 status_behind (Some refusal) = input refusal
@@ -283,10 +283,10 @@ pub record IsPassedStatus (script : Script) (status : Status) : Type 0 where
   pub pass : PassAt script line passed
   pub is : status ≡ status_of_kind (kind_of passed) line
 
--- the status of a schedule where no write fails and there is memory: its lines lead to one of both (`outcomes_are_one`)
+-- the status of a schedule where no write fails and there is memory: its lines have one of both (`outcomes_are_one`)
 abbrev pub IsStatusOf : Schedule → Status → Type 0
 IsStatusOf (Refused refusal) status = status ≡ input refusal
-IsStatusOf (Read script refused) status = (LeadOn script × (status ≡ status_behind refused)) ⊎ IsPassedStatus script status
+IsStatusOf (Read script refused) status = (HaveWorld script × (status ≡ status_behind refused)) ⊎ IsPassedStatus script status
 
 -- the answer where no read and no write fails and there is memory
 abbrev pub IsSure : Option Form → List ℕ → Status → Type 0

@@ -1,4 +1,4 @@
--- What the text of a schedule says to a store of one site and one partition.
+-- What the text of a schedule says.
 use Rattle.std.specs.Prelude.{◌≡◌, ⊤, ℕ, ◌+◌, ◌==◌, ◌&&◌, Bool, true, false, if◌then◌else◌, List, [], ◌∷◌, ◌++◌, length, Option, Some, None, Result, Ok, Err}
 use Rattle.us_base.specs.declared.shape.Shape.{Shape}
 use Rattle.us_schedule.specs.declared.line.Line.{Line}
@@ -8,7 +8,7 @@ use Rattle.us_schedule.specs.declared.fault.LineFault.TheVariants as fault
 use Rattle.us_schedule.specs.Lines.{Read, Skipped, Found, line_read}
 use Rattle.us_schedule.specs.Lines.{Refused as Unread}
 use Rattle.us_schedule.specs.Text.{text_lines, Parted, parted_text}
-use Rattle.us_value.specs.declared.operation.Kind.{Kind}
+use Rattle.us_model.specs.declared.settings.Settings.{Settings}
 use Rattle.us_config.specs.declared.config.Config.{Config}
 use Rattle.us_config.specs.declared.fault.ReadFault.{ReadFault}
 use Rattle.us_config.specs.declared.fault.ReadFault.TheVariants as read
@@ -24,9 +24,9 @@ use Rattle.unistore.specs.declared.schedule.Schedule.TheVariants as schedule
 use Rattle.unistore.specs.declared.schedule.LineStop.{LineStop}
 use Rattle.unistore.specs.declared.schedule.LineStop.TheVariants as stop
 
--- one site, which may not be lost, and one partition
-abbrev pub one_site : Shape
-one_site = record { f = 0; parts = 1 }
+-- what the actors of a store are configured with
+abbrev pub settings_of : Config → Settings
+settings_of config = record { shape = config.shape; catalog = config.catalog; conflicts = config.conflicts }
 
 -- a line that this store performs
 abbrev pub is_performed : Line → Bool
@@ -58,8 +58,8 @@ said_of Skipped = Nothing
 said_of (Found line) = if is_performed line then Performs line else Refuses NotBuilt
 said_of (Unread e) = Refuses (reason_of e)
 
-abbrev pub said : List ℕ → Said
-said text = said_of (line_read one_site text)
+abbrev pub said : Shape → List ℕ → Said
+said shape text = said_of (line_read shape text)
 
 -- the line of this number to be performed, if the text says one
 abbrev pub line_in : ℕ → Said → List Numbered
@@ -78,18 +78,19 @@ abbrev pub or_refused : Option Refusal → Option Refusal → Option Refusal
 or_refused (Some refusal) later = Some refusal
 or_refused None later = later
 
-abbrev pub refused_behind : ℕ → List (List ℕ) → Option Refusal
-refused_behind number [] = None
-refused_behind number (text ∷ texts) = or_refused (refusal_in number (said text)) (refused_behind (number + 1) texts)
+abbrev pub refused_behind : Shape → ℕ → List (List ℕ) → Option Refusal
+refused_behind shape number [] = None
+refused_behind shape number (text ∷ texts) = or_refused (refusal_in number (said shape text)) (refused_behind shape (number + 1) texts)
 
 -- the lines to be performed before it
 abbrev pub unless_refused : Option Refusal → List Numbered → List Numbered
 unless_refused (Some refusal) lines = []
 unless_refused None lines = lines
 
-abbrev pub lines_behind : ℕ → List (List ℕ) → List Numbered
-lines_behind number [] = []
-lines_behind number (text ∷ texts) = unless_refused (refusal_in number (said text)) (line_in number (said text) ++ lines_behind (number + 1) texts)
+abbrev pub lines_behind : Shape → ℕ → List (List ℕ) → List Numbered
+lines_behind shape number [] = []
+lines_behind shape number (text ∷ texts) =
+    unless_refused (refusal_in number (said shape text)) (line_in number (said shape text) ++ lines_behind shape (number + 1) texts)
 
 -- ---- the text before the separator
 
@@ -97,7 +98,7 @@ lines_behind number (text ∷ texts) = unless_refused (refusal_in number (said t
 abbrev pub store_of : Config → Configured
 store_of config =
     if (config.shape.f == 0) && (config.shape.parts == 1)
-    then configured.Store config.catalog
+    then configured.Store config
     else configured.Refused (record { line = 0; reason = NotBuilt })
 
 -- what the configuration says; its meaning is never want of memory
@@ -108,12 +109,12 @@ configured_by (Err read.Memory) = configured.Refused (record { line = 0; reason 
 
 -- ---- the whole text
 
-abbrev pub schedule_behind : List (ℕ × Kind) → ℕ → List (List ℕ) → Schedule
-schedule_behind spaces number texts =
-    schedule.Read (record { catalog = spaces; lines = lines_behind number texts }) (refused_behind number texts)
+abbrev pub schedule_behind : Config → ℕ → List (List ℕ) → Schedule
+schedule_behind config number texts =
+    schedule.Read (record { config = config; lines = lines_behind config.shape number texts }) (refused_behind config.shape number texts)
 
 abbrev pub schedule_in : Configured → ℕ → List (List ℕ) → Schedule
-schedule_in (configured.Store spaces) number texts = schedule_behind spaces number texts
+schedule_in (configured.Store config) number texts = schedule_behind config number texts
 schedule_in (configured.Refused refusal) number texts = schedule.Refused refusal
 
 -- the parts of a text of so many lines

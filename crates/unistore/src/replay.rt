@@ -1,5 +1,5 @@
 ghost use Rattle.std.specs.Prelude.{◌≡◌, Bool, IfOk, string_bytes};
-ghost use Rattle.us_world.specs.Lines.{AllBuilt};
+ghost use Rattle.unistore.specs.Built.{IsBuilt};
 ghost use Rattle.unistore.specs.Answers.{Passed, PassedFault, Performs, Refuses, RefusesTooMuch, RefusesWords, Replays, Tells};
 ghost use Rattle.unistore.specs.Schedule.{schedule_of};
 ghost use Rattle.unistore.specs.Status.{kind_of, input_text, passed_text};
@@ -89,7 +89,7 @@ fn perform_read<K: Sink>(
     short: bool,
     sink: &mut K,
 ) -> Status
-    requires { AllBuilt script.lines }
+    requires { IsBuilt script }
     ensures { Performs short (Read script refused)
         (record { written = K.written sink.old; faults = K.faults sink.old }) (record { written = K.written sink.new; faults = K.faults sink.new })
         result }
@@ -102,13 +102,13 @@ fn perform_read<K: Sink>(
 
 /// Performs the lines, and then writes the line of the refusal behind them.
 fn refuse_behind<K: Sink>(alloc: Global, script: Script, refusal: Refusal, sink: &mut K) -> Status
-    requires { AllBuilt script.lines }
+    requires { IsBuilt script }
     ensures { (short : Bool) → Performs short (Read script (Some refusal))
         (record { written = K.written sink.old; faults = K.faults sink.old }) (record { written = K.written sink.new; faults = K.faults sink.new })
         result }
 {
-    let Script { catalog, lines } = script;
-    match perform_lines(alloc, catalog, lines.as_slice()) {
+    let (settings, lines) = script.into_parts();
+    match perform_lines(alloc, &settings, lines.as_slice()) {
         Ok(()) => refuse_input(alloc, refusal, sink),
         Err(fault) => refuse_fault(alloc, fault, sink),
     }
@@ -116,7 +116,7 @@ fn refuse_behind<K: Sink>(alloc: Global, script: Script, refusal: Refusal, sink:
 
 /// Performs the lines and writes the report.
 fn report_lines<K: Sink>(alloc: Global, script: Script, short: bool, sink: &mut K) -> Status
-    requires { AllBuilt script.lines }
+    requires { IsBuilt script }
     ensures { Performs short (Read script None)
         (record { written = K.written sink.old; faults = K.faults sink.old }) (record { written = K.written sink.new; faults = K.faults sink.new })
         result }

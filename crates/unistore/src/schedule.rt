@@ -2,25 +2,24 @@ ghost use Rattle.std.specs.Prelude.{◌≡◌, ◌+◌, ◌<◌, ◌^◌, IfOk, 
 ghost use Rattle.us_config.specs.Whole.{config_said};
 ghost use Rattle.us_schedule.specs.Text.{text_lines};
 ghost use Rattle.us_world.specs.Lines.{AllBuilt};
-ghost use Rattle.unistore.specs.Schedule.{Takes, configured_by, store_of, is_performed, reason_of, said, schedule_behind, schedule_of};
-ghost use Rattle.unistore.specs.Built.{IsBuiltSchedule};
+ghost use Rattle.unistore.specs.Schedule.{Takes, configured_by, store_of, settings_of, is_performed, reason_of, said, schedule_behind, schedule_of};
+ghost use Rattle.us_base.specs.Shape.{IsShape};
+ghost use Rattle.us_order.specs.Premise.{HasOnePartition};
+ghost use Rattle.unistore.specs.Built.{IsBuiltStore, IsBuiltSchedule};
 
 use crate::Reason;
 use std::alloc::Global;
 use us_base::Shape;
 use us_config::{Config, ReadFault};
 use us_kind::{Items, Memory};
+use us_model::Settings;
 use us_schedule::{Line, LineFault, next_line, read_line, split_text};
-use us_value::Catalog;
 use us_world::Numbered;
 
-/// One site, which may not be lost, and one partition.
-const ONE_SITE: Shape = Shape { f: 0, parts: 1 };
-
-/// What a text asks for: the spaces of the store, and the lines to be performed, in order.
+/// What a text asks for: how the store is configured, and the lines to be performed, in order.
 #[derive(Drop)]
 pub struct Script {
-    pub catalog: Catalog,
+    pub config: Config,
     pub lines: Items<Numbered>,
 }
 
@@ -48,8 +47,8 @@ pub enum Schedule {
 /// What the text before the separator says.
 #[derive(Drop)]
 pub enum Configured {
-    /// A store of one site and one partition with these spaces.
-    Store { catalog: Catalog },
+    /// A store that is built.
+    Store { config: Config },
     /// It is refused.
     Refused { refusal: Refusal },
 }
@@ -73,6 +72,28 @@ impl From<Memory> for LineStop {
     }
 }
 
+impl Script {
+    /// What the store's actors are configured with, and the lines.
+    pub fn into_parts(self) -> (Settings, Items<Numbered>)
+        ensures settings { result.0 ≡ settings_of self.config }
+        ensures lines { result.1 ≡ self.lines }
+    {
+        let Script { config, lines } = self;
+        let Config {
+            shape,
+            catalog,
+            conflicts,
+            plan: _,
+        } = config;
+        let settings = Settings {
+            shape,
+            catalog,
+            conflicts,
+        };
+        (settings, lines)
+    }
+}
+
 /// Reads the text of a schedule, in time that grows with its length.
 #[tactic(auto, unfolding(crate::specs::Schedule::schedule_of))]
 pub fn read_schedule(alloc: Global, text: &[u8]) -> Result<Schedule, Memory>
@@ -91,8 +112,8 @@ pub fn read_schedule(alloc: Global, text: &[u8]) -> Result<Schedule, Memory>
         }
     };
     match read_config(alloc, parts.before)? {
-        Configured::Store { catalog } => {
-            read_behind(alloc, catalog, parts.behind, parts.line + 1)
+        Configured::Store { config } => {
+            read_behind(alloc, config, parts.behind, parts.line + 1)
         }
         Configured::Refused { refusal } => Ok(Schedule::Refused { refusal }),
     }
@@ -100,7 +121,8 @@ pub fn read_schedule(alloc: Global, text: &[u8]) -> Result<Schedule, Memory>
 
 /// Reads the configuration.
 fn read_config(alloc: Global, text: &[u8]) -> Result<Configured, Memory>
-    ensures { IfOk result (λ said. said ≡ configured_by (config_said text.now)) }
+    ensures said { IfOk result (λ said. said ≡ configured_by (config_said text.now)) }
+    ensures built { IfOk result IsBuiltStore }
 {
     match us_config::read(alloc, text) {
         Ok(config) => Ok(store_of(config)),
@@ -114,14 +136,13 @@ fn read_config(alloc: Global, text: &[u8]) -> Result<Configured, Memory>
     }
 }
 
-/// The spaces of a store of one site and one partition; another one isn't built yet.
+/// A store of one site and one partition; another one isn't built yet.
 fn store_of(config: Config) -> Configured
-    ensures { result ≡ store_of config }
+    ensures store { result ≡ store_of config }
+    ensures built { IsBuiltStore result }
 {
     if config.shape.f == 0 && config.shape.parts == 1 {
-        return Configured::Store {
-            catalog: config.catalog,
-        };
+        return Configured::Store { config };
     }
     Configured::Refused {
         refusal: Refusal {
@@ -132,23 +153,25 @@ fn store_of(config: Config) -> Configured
 }
 
 /// Reads the lines behind the separator up to the first refused one. The first line has this number.
-fn read_behind(alloc: Global, catalog: Catalog, text: &[u8], first: u64) -> Result<Schedule, Memory>
-    requires { first + length (text_lines text.now) < 2 ^ 64 }
-    ensures read { IfOk result (λ schedule. schedule ≡ schedule_behind catalog first (text_lines text.now)) }
+fn read_behind(alloc: Global, config: Config, text: &[u8], first: u64) -> Result<Schedule, Memory>
+    requires store { HasOnePartition (settings_of config) }
+    requires number { first + length (text_lines text.now) < 2 ^ 64 }
+    ensures read { IfOk result (λ schedule. schedule ≡ schedule_behind config first (text_lines text.now)) }
     ensures built { IfOk result IsBuiltSchedule }
 {
+    let shape = config.shape;
     let mut lines = Items::new(alloc);
     let mut number = first;
     let mut rest = text;
     while let Some((line, behind)) = next_line(rest) {
-        match take_line(alloc, line, number, &mut lines) {
+        match take_line(alloc, shape, line, number, &mut lines) {
             Ok(()) => {}
             Err(LineStop::Refused { reason }) => {
                 let refused = Some(Refusal {
                     line: number,
                     reason,
                 });
-                let script = Script { catalog, lines };
+                let script = Script { config, lines };
                 return Ok(Schedule::Read { script, refused });
             }
             Err(LineStop::Memory) => return Err(Memory),
@@ -157,7 +180,7 @@ fn read_behind(alloc: Global, catalog: Catalog, text: &[u8], first: u64) -> Resu
         rest = behind;
     }
     Ok(Schedule::Read {
-        script: Script { catalog, lines },
+        script: Script { config, lines },
         refused: None,
     })
 }
@@ -166,14 +189,16 @@ fn read_behind(alloc: Global, catalog: Catalog, text: &[u8], first: u64) -> Resu
 #[tactic(auto, using(crate::proofs::Built::joined))]
 fn take_line(
     alloc: Global,
+    shape: Shape,
     text: &[u8],
     number: u64,
     lines: &mut Items<Numbered>,
 ) -> Result<(), LineStop>
-    ensures taken { Takes result number lines.old lines.new (said text.now) }
+    requires { IsShape shape }
+    ensures taken { Takes result number lines.old lines.new (said shape text.now) }
     ensures built { AllBuilt lines.old → AllBuilt lines.new }
 {
-    match read_line(alloc, text, ONE_SITE) {
+    match read_line(alloc, text, shape) {
         Ok(None) => Ok(()),
         Ok(Some(line)) => {
             if !is_performed(&line) {

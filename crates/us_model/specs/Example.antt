@@ -7,12 +7,12 @@ use Rattle.us_exec.specs.declared.SessionName.{SessionName}
 use Rattle.us_exec.specs.declared.Done.{Done}
 use Rattle.us_exec.specs.declared.Execution.{Execution}
 use Rattle.us_value.specs.declared.operation.Kind.TheVariants.{Register}
-use Rattle.us_model.specs.State.{Spaces}
+use Rattle.us_model.specs.declared.settings.Settings.{Settings}
 use Rattle.us_model.specs.Worlds.{Happening, Opens, Sends, Comes}
 
--- one space, of registers
-abbrev pub example_spaces : Spaces
-example_spaces = (1, Register) ∷ []
+-- one site with one partition, and one space, of registers
+abbrev pub example_settings : Settings
+example_settings = record { shape = record { f = 0; parts = 1 }; catalog = (1, Register) ∷ []; conflicts = [] }
 
 -- frames of the client
 abbrev pub begin_frame : List ℕ

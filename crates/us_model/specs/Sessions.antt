@@ -1,9 +1,11 @@
 -- The rules of a coordinator, at one of its sessions.
 use Rattle.std.specs.Prelude.{ℕ, ◌+◌, List, [], ◌∷◌, ◌++◌, length, Bool, true, false, not, ◌&&◌, ◌==◌, if◌then◌else◌, nat_lt, nat_le, Option, Some, None, max, filter}
-use Rattle.std.specs.List.{list_any}
+use Rattle.std.specs.List.{list_any, range_with_len}
 use Rattle.us_kind.specs.Words.{tid_eq}
 use Rattle.us_kind.specs.declared.identity.Tid.{Tid}
 use Rattle.us_base.specs.Vector.{join, with_entry}
+use Rattle.us_base.specs.Place.{place_of}
+use Rattle.us_base.specs.declared.shape.Shape.{Shape}
 use Rattle.us_value.specs.declared.item.Item.{Item}
 use Rattle.us_value.specs.declared.item.Write.{Write}
 use Rattle.us_value.specs.declared.operation.Kind.{Kind}
@@ -76,12 +78,25 @@ refused d s at number =
 abbrev pub to_partition : Desk → ℕ → Message → Packet
 to_partition d part m = record { from = d.me; to = record { site = d.me.site; actor = part }; message = m }
 
--- the partition that keeps an item, and those that keep what was written: there is one
-abbrev pub home : Item → ℕ
-home item = 1
+-- the partition that keeps an item
+abbrev pub home : Shape → Item → ℕ
+home shape item = place_of shape.parts item.space item.id
 
-abbrev pub partitions_written : List Write → List ℕ
-partitions_written writes = 1 ∷ []
+-- a write is on an item of this partition
+abbrev pub is_kept_by : Shape → ℕ → Write → Bool
+is_kept_by shape part w = home shape w.item == part
+
+-- the writes on a partition's items, in order
+abbrev pub writes_on : Shape → ℕ → List Write → List Write
+writes_on shape part writes = filter (λ w. is_kept_by shape part w) writes
+
+-- some write is on an item of this partition
+abbrev pub is_written : Shape → List Write → ℕ → Bool
+is_written shape writes part = list_any (λ w. is_kept_by shape part w) writes
+
+-- the partitions that keep what was written, ascending
+abbrev pub partitions_written : Shape → List Write → List ℕ
+partitions_written shape writes = filter (λ p. is_written shape writes p) (range_with_len 1 shape.parts)
 
 -- BEGIN
 abbrev pub next_tid : Desk → Tid
@@ -106,7 +121,7 @@ own_effects item (w ∷ ws) = if item_eq w.item item then (w.place, w.effect) �
 abbrev pub asked_for : Desk → Session → ℕ → Transaction → Item → Op → Acted
 asked_for d s at tx item op =
     record {
-      desk = with_packets d (to_partition d (home item) (message.Get tx.tid (length tx.ops + 1) at tx.snapshot item op (own_effects item tx.writes)) ∷ []);
+      desk = with_packets d (to_partition d (home d.shape item) (message.Get tx.tid (length tx.ops + 1) at tx.snapshot item op (own_effects item tx.writes)) ∷ []);
       session = record s { waits = waits.Version at (length tx.ops + 1) item op };
     }
 
@@ -134,13 +149,13 @@ ended d s at tx vector =
 
 abbrev pub prepares : Desk → Transaction → List ℕ → List Packet
 prepares d tx [] = []
-prepares d tx (part ∷ parts) = to_partition d part (message.Prepare tx.tid tx.snapshot tx.writes) ∷ prepares d tx parts
+prepares d tx (part ∷ parts) = to_partition d part (message.Prepare tx.tid tx.snapshot (writes_on d.shape part tx.writes)) ∷ prepares d tx parts
 
 abbrev pub sent_out : Desk → Session → ℕ → Transaction → Acted
 sent_out d s at tx =
     record {
-      desk = with_packets d (prepares d tx (partitions_written tx.writes));
-      session = record s { waits = waits.Prepared at (partitions_written tx.writes) [] };
+      desk = with_packets d (prepares d tx (partitions_written d.shape tx.writes));
+      session = record s { waits = waits.Prepared at (partitions_written d.shape tx.writes) [] };
     }
 
 abbrev pub committing : Desk → Session → ℕ → Transaction → List Write → Acted
@@ -320,7 +335,7 @@ commits d tid vector [] = []
 commits d tid vector (part ∷ parts) = to_partition d part (message.Commit tid vector) ∷ commits d tid vector parts
 
 abbrev pub decided : Desk → Session → ℕ → Transaction → List ℕ → Acted
-decided d s at tx vector = ended (with_packets d (commits d tx.tid vector (partitions_written tx.writes))) s at tx vector
+decided d s at tx vector = ended (with_packets d (commits d tx.tid vector (partitions_written d.shape tx.writes))) s at tx vector
 
 abbrev pub told_all : Desk → Session → ℕ → Transaction → List ℕ → List PreparedAt → Acted
 told_all d s at tx [] told = decided d s at tx (with_entry tx.snapshot d.me.site (greatest told))

@@ -1,5 +1,6 @@
 -- One step of a site: an event is taken by one of its actors, which then wakes.
-use Rattle.std.specs.Prelude.{ℕ, ◌+◌, ◌-◌, List, [], ◌∷◌, ◌++◌, length, Bool, true, false, ◌&&◌, ◌==◌, if◌then◌else◌, nat_lt, nat_le, Option, Some, None, slice_get, slice_set}
+use Rattle.std.specs.Prelude.{ℕ, ◌+◌, ◌-◌, List, [], ◌∷◌, ◌++◌, length, Bool, true, false, ◌&&◌, ◌==◌, if◌then◌else◌, nat_lt, nat_le, Option, Some, None, slice_get, slice_set, map}
+use Rattle.std.specs.List.{range_with_len}
 use Rattle.us_base.specs.Vector.{zero}
 use Rattle.us_base.specs.declared.shape.Shape.{Shape}
 use Rattle.us_value.specs.declared.item.Write.{Write}
@@ -138,8 +139,13 @@ message_fits spaces (message.Prepare tid snapshot writes) = writes_fit spaces wr
 message_fits spaces (message.Prepared tid ts) = true
 message_fits spaces (message.Commit tid vector) = true
 
-abbrev pub is_for : Actor → Spaces → Packet → Bool
-is_for me spaces packet = (packet.from.site == me.site) && ((packet.from.actor == 1) && message_fits spaces packet.message)
+-- the actors of partitions are 1 and so on, and 0 is the certifier
+abbrev pub is_partition : Shape → ℕ → Bool
+is_partition shape actor = nat_le 1 actor && nat_le actor shape.parts
+
+abbrev pub is_for : Actor → Settings → Packet → Bool
+is_for me settings packet =
+    (packet.from.site == me.site) && (is_partition settings.shape packet.from.actor && message_fits settings.catalog packet.message)
 
 -- AN EVENT, and its actor
 abbrev pub actor_of : Event → ℕ
@@ -153,7 +159,7 @@ take_event me settings full w (event.Open coord) = if full then refused_open coo
 take_event me settings full w (event.Bytes coord session piece) = all_sessions (bytes settings.catalog session piece) me settings.shape w
 take_event me settings full w (event.Close coord session) = all_sessions (close session) me settings.shape w
 take_event me settings full w (event.Take packet) =
-    if is_for me settings.catalog packet then take_message me settings.shape packet.from w packet.message else w
+    if is_for me settings packet then take_message me settings.shape packet.from w packet.message else w
 
 -- WAKE: waiting questions are answered, and then each session runs
 abbrev pub answers : Actor → Spaces → Went → Went
@@ -195,10 +201,10 @@ new_shard =
       coordinator = record { seq = 0; sessions = [] };
     }
 
--- a store of one site with one partition
-abbrev pub lone : Shape
-lone = record { f = 0; parts = 1 }
+-- a shard for each partition
+abbrev pub new_shards : ℕ → List Shard
+new_shards parts = map (λ part. new_shard) (range_with_len 1 parts)
 
--- a site of it, with these spaces
-abbrev pub new_site : ℕ → Spaces → Site
-new_site number spaces = record { number = number; settings = record { shape = lone; catalog = spaces }; shards = new_shard ∷ [] }
+-- the site of this number in a store with these settings
+abbrev pub new_site : Settings → ℕ → Site
+new_site settings number = record { number = number; settings = settings; shards = new_shards settings.shape.parts }

@@ -1,6 +1,7 @@
 -- The world: all sites, all packets ever sent, and what the sites tell.
-use Rattle.std.specs.Prelude.{◌≡◌, ℕ, ◌+◌, ◌-◌, List, [], ◌∷◌, ◌++◌, Bool, not, ◌&&◌, ◌==◌, if◌then◌else◌, nat_lt, Option, Some, None, slice_get, slice_set}
-use Rattle.std.specs.List.{list_any}
+use Rattle.std.specs.Prelude.{◌≡◌, ℕ, ◌+◌, ◌-◌, List, [], ◌∷◌, ◌++◌, Bool, not, ◌&&◌, ◌==◌, if◌then◌else◌, nat_lt, Option, Some, None, slice_get, slice_set, map}
+use Rattle.std.specs.List.{list_any, range_with_len}
+use Rattle.us_base.specs.Shape.{sites_of}
 use Rattle.us_peer_wire.specs.declared.message.Packet.{Packet}
 use Rattle.us_model.specs.declared.event.Event.{Event}
 use Rattle.us_model.specs.declared.event.Event.TheVariants as event
@@ -10,7 +11,8 @@ use Rattle.us_model.specs.declared.coordinator.Ask.{Ask}
 use Rattle.us_model.specs.declared.coordinator.Session.{Session}
 use Rattle.us_model.specs.declared.coordinator.Waiting.{Waiting}
 use Rattle.us_model.specs.declared.coordinator.Waiting.TheVariants as waits
-use Rattle.us_model.specs.State.{Spaces, Shard, Site}
+use Rattle.us_model.specs.declared.settings.Settings.{Settings}
+use Rattle.us_model.specs.State.{Shard, Site}
 use Rattle.us_model.specs.Sites.{Stepped, site_step, new_site}
 
 -- the sites from 1, the packets in the order of sending, the numbers of those that were delivered (a packet may come
@@ -62,9 +64,12 @@ abbrev pub run : List Happening → World → World
 run [] w = w
 run (h ∷ hs) w = run hs (happens w h)
 
--- THE OPENING WORLD: one site with one partition, and these spaces
-abbrev pub start : Spaces → World
-start spaces = record { sites = new_site 1 spaces ∷ []; packets = []; delivered = []; notes = [] }
+-- THE OPENING WORLD of a store with these settings: 2f + 1 sites, each with its partitions, where nothing has happened
+abbrev pub new_sites : Settings → List Site
+new_sites settings = map (new_site settings) (range_with_len 1 (sites_of settings.shape))
+
+abbrev pub start : Settings → World
+start settings = record { sites = new_sites settings; packets = []; delivered = []; notes = [] }
 
 -- THE LEAST UNDELIVERED PACKET from one site to another, counted from 1
 abbrev pub is_delivered : List ℕ → ℕ → Bool

@@ -49,6 +49,7 @@ noted_all-append h (m ∷ ms) ns = noted_all-append (noted h m) ms ns
 -- the ledger is what there was before the event, and what the desk has given out since
 pub record Stands (b : Ledger) (p : Partition) (l : Ledger) (d : Desk) : Type 0 where
   pub actor : d.me ≡ me
+  pub one : d.shape.parts ≡ 1
   pub base : d.base ≡ known me p
   pub seq : d.seq ≡ l.seq
   pub messages : l.messages ≡ b.messages ++ messages_of d.out.packets
@@ -57,6 +58,7 @@ pub record Stands (b : Ledger) (p : Partition) (l : Ledger) (d : Desk) : Type 0 
 pub stands_packets : (b : Ledger) (p : Partition) (l : Ledger) (d : Desk) (ps : List Packet) → Stands b p l d → Stands b p (with_messages l (messages_of ps)) (with_packets d ps)
 stands_packets b p l d ps h = record {
   actor = h.actor;
+  one = h.one;
   base = h.base;
   seq = h.seq;
   messages = ap (λ ms. ms ++ messages_of ps) h.messages ∙ append_assoc b.messages (messages_of d.out.packets) (messages_of ps) ∙ ap (λ ms. b.messages ++ ms) (sym (messages_of-append d.out.packets ps));
@@ -66,6 +68,7 @@ stands_packets b p l d ps h = record {
 pub stands_note : (b : Ledger) (p : Partition) (l : Ledger) (d : Desk) (n : Note) → Stands b p l d → Stands b p (with_told l n) (with_note d n)
 stands_note b p l d n h = record {
   actor = h.actor;
+  one = h.one;
   base = h.base;
   seq = h.seq;
   messages = h.messages;
@@ -73,7 +76,7 @@ stands_note b p l d n h = record {
 }
 
 pub stands_client : (b : Ledger) (p : Partition) (l : Ledger) (d : Desk) (c : ClientOut) → Stands b p l d → Stands b p l (with_client d c)
-stands_client b p l d c h = record { actor = h.actor; base = h.base; seq = h.seq; messages = h.messages; history = h.history }
+stands_client b p l d c h = record { actor = h.actor; one = h.one; base = h.base; seq = h.seq; messages = h.messages; history = h.history }
 
 pub stands_tell : (b : Ledger) (p : Partition) (l : Ledger) (d : Desk) (s : Session) (r : Reply) → Stands b p l d → Stands b p l (tell d s r)
 stands_tell b p l d s r h = cond_both s.closed d (with_client d (reply_out d s r false)) (Stands b p l) (λ _. h) (λ _. stands_client b p l d _ h)

@@ -1,6 +1,7 @@
 pub mod Ledgers
 pub mod Partition
 pub mod Acts
+pub mod OnePartition
 pub mod Queue
 pub mod Facts
 pub mod Sessions

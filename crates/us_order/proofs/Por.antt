@@ -43,34 +43,34 @@ valued spaces p l part all = record {
 
 -- THE LAWS
 pub every_run : EveryRunIsPor
-every_run spaces hs declared =
-    let w = run hs (start spaces) in
-    let h = run_facts spaces hs (start spaces) (start_facts spaces) in
+every_run settings one hs =
+    let w = run hs (start settings) in
+    let h = run_facts settings one hs (start settings) (start_facts settings one) in
     let f = h.facts in
     let p = h.shard.partition in
     let l = ledger_of h.shard w.packets w.notes in
-    record { closed = closed spaces p l f.part f.all; valued = valued spaces p l f.part f.all; ordered = ordered declared l }
+    record { closed = closed settings.catalog p l f.part f.all; valued = valued settings.catalog p l f.part f.all; ordered = ordered settings.conflicts l }
 
 pub pasts_direct : PastsAreDirect
-pasts_direct spaces hs t s i =
-    let w = run hs (start spaces) in
-    let h = run_facts spaces hs (start spaces) (start_facts spaces) in
-    past-counts spaces h.shard.partition (ledger_of h.shard w.packets w.notes) h.facts.part h.facts.all s t i
+pasts_direct settings one hs t s i =
+    let w = run hs (start settings) in
+    let h = run_facts settings one hs (start settings) (start_facts settings one) in
+    past-counts settings.catalog h.shard.partition (ledger_of h.shard w.packets w.notes) h.facts.part h.facts.all s t i
 
 pub executions_direct : ExecutionsAreDirect
-executions_direct spaces hs =
-    let w = run hs (start spaces) in
-    let h = run_facts spaces hs (start spaces) (start_facts spaces) in
-    execution-same spaces h.shard.partition (ledger_of h.shard w.packets w.notes) h.facts.part h.facts.all
+executions_direct settings one hs =
+    let w = run hs (start settings) in
+    let h = run_facts settings one hs (start settings) (start_facts settings one) in
+    execution-same settings.catalog h.shard.partition (ledger_of h.shard w.packets w.notes) h.facts.part h.facts.all
 
 pub histories_ascended : HistoriesAscend
-histories_ascended spaces hs =
-    let w = run hs (start spaces) in
-    let h = run_facts spaces hs (start spaces) (start_facts spaces) in
-    ascends_by spaces h.shard.partition (ledger_of h.shard w.packets w.notes) h.facts.part h.facts.all
+histories_ascended settings one hs =
+    let w = run hs (start settings) in
+    let h = run_facts settings one hs (start settings) (start_facts settings one) in
+    ascends_by settings.catalog h.shard.partition (ledger_of h.shard w.packets w.notes) h.facts.part h.facts.all
 
 pub all_well_formed : ExecutionsAreWellFormed
-all_well_formed spaces hs =
-    let w = run hs (start spaces) in
-    let h = run_facts spaces hs (start spaces) (start_facts spaces) in
-    well_formed spaces h.shard.partition (ledger_of h.shard w.packets w.notes) h.facts.part h.facts.all (history_numbered w.notes)
+all_well_formed settings one hs =
+    let w = run hs (start settings) in
+    let h = run_facts settings one hs (start settings) (start_facts settings one) in
+    well_formed settings.catalog h.shard.partition (ledger_of h.shard w.packets w.notes) h.facts.part h.facts.all (history_numbered w.notes)

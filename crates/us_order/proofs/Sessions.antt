@@ -38,6 +38,7 @@ use Rattle.us_model.specs.Executions.{Begun, Performed, Committed, History, begu
 use Rattle.us_order.proofs.Ledgers.{me, name, Ledger, with_messages, with_told, Stands, stands_packets, stands_note, stands_tell}
 use Rattle.us_order.proofs.Partition.{own_known-clock, horizon}
 use Rattle.us_order.proofs.Acts.{state_at, Fits, act_of, writes_in, writes_in-append, writes_in-one, HasWrites, effect_at, acts_of, acts_from-push, update-writes, writes-update}
+use Rattle.us_order.proofs.OnePartition.{sent_to_one, sent_out_one, decided_at_one}
 use Rattle.us_order.proofs.Queue.{Ascends}
 use Rattle.us_order.proofs.Facts.{OfBegun, writes_of, ops_of-none, ops_of-same, ops_of-still, IsTrueAnswer, AllTrue, AllTrue-push, AllTrue-fits, StillPrepared, IsDecided, IsTrue, Numbered, DecidedFacts, PartitionFacts, SameKey, once_push, StandsEarlier, earlier_front, earlier_push, BegunForm, HistoryFacts, SharedFacts, Waits, waits-later, WaitsForPrepared, begun_as, RunningFacts, SessionFacts, OfSession, FromSession, Grows, grows_nowhere, grows_further}
 
@@ -155,7 +156,7 @@ asked_for_keeps spaces b p l d s at tx item op fits st h running idle next =
     let w' = waits.Version at (length tx.ops + 1) item op in
     record {
       ledger = l';
-      stands = stands_packets b p l d (to_partition d (home item) m ∷ []) st;
+      stands = stands_packets b p l d (to_partition d (home d.shape item) m ∷ []) st;
       grow = g;
       facts = record {
         part = part_grows spaces p s.number l l' g h.part (in_one (IsTrue spaces p l') m (record { by = begun_as s.number tx; here = run.begun; tid_is = refl; snapshot_is = refl; fits = fits })) (λ c i. (h.part.decided c i).ops) (λ c i. absurd i) h.part.answers;
@@ -188,8 +189,8 @@ new_prepare spaces log l n last w tx run idle (message.Version v) h k = k
 new_prepare spaces log l n last w tx run idle (message.Prepared t m) h k = k
 new_prepare spaces log l n last w tx run idle (message.Commit t v) h k = k
 
-pub sent_out_keeps : (spaces : Spaces) (b : Ledger) (p : Partition) (l : Ledger) (d : Desk) (s : Session) (at : ℕ) (tx : Transaction) → Stands b p l d → Facts spaces p l s → s.running ≡ Some tx → s.waits ≡ waits.Nothing → HasWrites tx.writes → Kept spaces b p l s.number (sent_out d s at tx)
-sent_out_keeps spaces b p l d s at tx st h running idle has =
+sent_to_one_keeps : (spaces : Spaces) (b : Ledger) (p : Partition) (l : Ledger) (d : Desk) (s : Session) (at : ℕ) (tx : Transaction) → Stands b p l d → Facts spaces p l s → s.running ≡ Some tx → s.waits ≡ waits.Nothing → HasWrites tx.writes → Kept spaces b p l s.number (sent_to_one d s at tx)
+sent_to_one_keeps spaces b p l d s at tx st h running idle has =
     let run = h.mine.runs tx running in
     let m = message.Prepare tx.tid tx.snapshot tx.writes in
     let l' = with_messages l (m ∷ []) in
@@ -221,6 +222,9 @@ sent_out_keeps spaces b p l d s at tx st h running idle has =
       };
       number = refl;
     }
+
+pub sent_out_keeps : (spaces : Spaces) (b : Ledger) (p : Partition) (l : Ledger) (d : Desk) (s : Session) (at : ℕ) (tx : Transaction) → Stands b p l d → Facts spaces p l s → s.running ≡ Some tx → s.waits ≡ waits.Nothing → HasWrites tx.writes → Kept spaces b p l s.number (sent_out d s at tx)
+sent_out_keeps spaces b p l d s at tx st h running idle has = subst (Kept spaces b p l s.number) (sym (sent_out_one d s at tx st.one has)) (sent_to_one_keeps spaces b p l d s at tx st h running idle has)
 
 -- BEGIN
 abbrev pub tid_after : ℕ → Tid
@@ -288,7 +292,7 @@ begun_keeps_at spaces b p l d s at same st h idle =
     } in
     record {
       ledger = l';
-      stands = record { actor = told.actor; base = told.base; seq = refl; messages = told.messages; history = told.history };
+      stands = record { actor = told.actor; one = told.one; base = told.base; seq = refl; messages = told.messages; history = told.history };
       grow = g;
       facts = record {
         part = part_grows spaces p s.number l l' g h.part (λ m i. absurd i) (λ c i. (h.part.decided c i).ops) (λ c i. absurd i)
@@ -318,7 +322,7 @@ pub begun_keeps : (spaces : Spaces) (b : Ledger) (p : Partition) (l : Ledger) (d
 begun_keeps spaces b p l d s at st h idle =
     let d0 : Desk = record d { me = me; base = known me p; seq = l.seq } in
     let e : d0 ≡ d = λ i. record d { me = sym st.actor i; base = sym st.base i; seq = sym st.seq i } in
-    subst (λ x. Kept spaces b p l s.number (begun x s at)) e (begun_keeps_at spaces b p l d s at st.seq (record { actor = refl; base = refl; seq = refl; messages = st.messages; history = st.history }) h idle)
+    subst (λ x. Kept spaces b p l s.number (begun x s at)) e (begun_keeps_at spaces b p l d s at st.seq (record { actor = refl; one = st.one; base = refl; seq = refl; messages = st.messages; history = st.history }) h idle)
 
 -- A DECISION
 
@@ -431,7 +435,7 @@ stands_decided : (spaces : Spaces) (b : Ledger) (p : Partition) (l : Ledger) (d 
 stands_decided spaces b p l d n last w tx vector all run st =
     let f = stands_note b p l d (note.Decided tx.tid vector) st in
     let one = begun_of-found l.history.begun (begun_as n tx) run.begun (λ x i e. all.told.begun_once x (begun_as n tx) i run.begun e) in
-    record { actor = f.actor; base = f.base; seq = f.seq; messages = f.messages; history = sym (ap (decided_one l.history vector) one) ∙ f.history }
+    record { actor = f.actor; one = f.one; base = f.base; seq = f.seq; messages = f.messages; history = sym (ap (decided_one l.history vector) one) ∙ f.history }
 
 abbrev grows_decided : (l : Ledger) (n : ℕ) (tx : Transaction) (vector : List ℕ) → Grows n l (record l { history = with_decided l.history (decision l n tx vector) })
 grows_decided l n tx vector = record {
@@ -513,8 +517,8 @@ above_snapshot spaces p l tx ts part all asked still =
     let tis = still.ts_is in
     subst (λ v. entry v 1 < ts) k (omega arith)
 
-pub decided_keeps : (spaces : Spaces) (b : Ledger) (p : Partition) (l : Ledger) (d : Desk) (s : Session) (at : ℕ) (tx : Transaction) (ts : ℕ) → Stands b p l d → Facts spaces p l s → s.running ≡ Some tx → HasWrites tx.writes → In (message.Prepare tx.tid tx.snapshot tx.writes) l.messages → In (message.Prepared tx.tid ts) l.messages → Kept spaces b p l s.number (decided d s at tx (with_entry tx.snapshot 1 ts))
-decided_keeps spaces b p l d s at tx ts st h running has asked told =
+decided_at_one_keeps : (spaces : Spaces) (b : Ledger) (p : Partition) (l : Ledger) (d : Desk) (s : Session) (at : ℕ) (tx : Transaction) (ts : ℕ) → Stands b p l d → Facts spaces p l s → s.running ≡ Some tx → HasWrites tx.writes → In (message.Prepare tx.tid tx.snapshot tx.writes) l.messages → In (message.Prepared tx.tid ts) l.messages → Kept spaces b p l s.number (ended (with_packets d (to_partition d 1 (message.Commit tx.tid (with_entry tx.snapshot 1 ts)) ∷ [])) s at tx (with_entry tx.snapshot 1 ts))
+decided_at_one_keeps spaces b p l d s at tx ts st h running has asked told =
     let run = h.mine.runs tx running in
     let vector = with_entry tx.snapshot 1 ts in
     let m = message.Commit tx.tid vector in
@@ -581,6 +585,10 @@ decided_keeps spaces b p l d s at tx ts st h running has asked told =
       prepares = λ sn ws j. run.prepares sn ws (in_old _ l.messages m (no_prepare _ _ _) j);
       waiting = waits-later l (with_messages l (m ∷ [])) tx w (goes_by l.messages (m ∷ [])) run.waiting;
     }
+
+pub decided_keeps : (spaces : Spaces) (b : Ledger) (p : Partition) (l : Ledger) (d : Desk) (s : Session) (at : ℕ) (tx : Transaction) (ts : ℕ) → Stands b p l d → Facts spaces p l s → s.running ≡ Some tx → HasWrites tx.writes → In (message.Prepare tx.tid tx.snapshot tx.writes) l.messages → In (message.Prepared tx.tid ts) l.messages → Kept spaces b p l s.number (decided d s at tx (with_entry tx.snapshot 1 ts))
+decided_keeps spaces b p l d s at tx ts st h running has asked told =
+    subst (Kept spaces b p l s.number) (sym (decided_at_one d s at tx (with_entry tx.snapshot 1 ts) st.one has)) (decided_at_one_keeps spaces b p l d s at tx ts st h running has asked told)
 
 -- VERSION: an operation is answered
 -- what is told where it isn't too long

@@ -1,5 +1,5 @@
 -- Every run of the world keeps the facts.
-use Rattle.std.proofs.Common.{◌≡◌, inl, inr, ℕ, zero, suc, ◌+◌, ◌-◌, ◌^◌, List, [], ◌∷◌, ◌++◌, append-nil, append_assoc, length, length-append, Bool, true, false, refl, sym, ap, ◌∙◌, subst, arith, cond}
+use Rattle.std.proofs.Common.{◌≡◌, map, ◌*◌, inl, inr, ℕ, zero, suc, ◌+◌, ◌-◌, ◌^◌, List, [], ◌∷◌, ◌++◌, append-nil, append_assoc, length, length-append, Bool, true, false, refl, sym, ap, ◌∙◌, subst, arith, cond}
 use Rattle.std.specs.Prelude.{Some, None, Option, slice_get, nat_lt}
 use Rattle.std.proofs.lemmas.Bool.{cond_both, and_parts, not-true, leb-true, lt-ltb}
 use Rattle.std.proofs.lemmas.Option.{slice_get_past}
@@ -20,13 +20,15 @@ use Rattle.us_model.specs.declared.event.Note.TheVariants as note
 use Rattle.us_model.specs.declared.partition.LogTx.{LogTx}
 use Rattle.us_model.specs.declared.coordinator.Session.{Session}
 use Rattle.us_model.specs.declared.coordinator.Desk.{Desk}
+use Rattle.std.specs.List.{range_with_len}
 use Rattle.us_model.specs.declared.settings.Settings.{Settings}
 use Rattle.us_model.specs.State.{Partition, Shard, Site, Spaces}
 use Rattle.us_model.specs.Partitions.{known, get, may_prepare, prepared as prepared_here, timestamp_for, committed, commit, versions}
 use Rattle.us_model.specs.Sessions.{Acted, bytes, close, version, prepared, run_session}
-use Rattle.us_model.specs.Sites.{Went, desk_of, all_sessions, with_partition, new_session, opened, refused_open, answer_to, take_message, is_for, actor_of, take_event, answers, wake, Stepped, is_full, shard_at, step_of, site_step, new_shard, lone, no_outputs}
+use Rattle.us_model.specs.Sites.{Went, desk_of, all_sessions, with_partition, new_session, opened, refused_open, answer_to, take_message, is_for, actor_of, take_event, answers, wake, Stepped, is_full, shard_at, step_of, site_step, new_shard, new_shards, no_outputs}
 use Rattle.us_model.specs.Worlds.{World, Happening, Opens, Sends, Closes, Comes, nth, at_site, delivered, comes, happens, run, start}
 use Rattle.us_model.specs.Executions.{history_of, noted_all, no_history}
+use Rattle.us_order.specs.Premise.{HasOnePartition}
 use Rattle.us_order.proofs.Ledgers.{me, Ledger, messages_of, messages_of-append, noted_all-append, with_messages, Stands}
 use Rattle.us_order.proofs.Partition.{Later, commit_by}
 use Rattle.us_order.proofs.Facts.{PartitionFacts, SharedFacts, SessionFacts}
@@ -54,13 +56,13 @@ still_in : (spaces : Spaces) (b : Ledger) (w : Went) (h : Good spaces b w) (m : 
 still_in spaces b w h m i = subst (In m) (sym h.messages) (in_front m b.messages (messages_of w.out.packets) i)
 
 -- EVERY SESSION ACTS
-all_keeps : (spaces : Spaces) (b : Ledger) (shape : Shape) (f : Desk → Session → Acted) (Q : List Message → Type 0) → ((ms ms' : List Message) → GoesOn ms ms' → Q ms → Q ms') → (w : Went)
+all_keeps : (spaces : Spaces) (b : Ledger) (shape : Shape) → shape.parts ≡ 1 → (f : Desk → Session → Acted) (Q : List Message → Type 0) → ((ms ms' : List Message) → GoesOn ms ms' → Q ms → Q ms') → (w : Went)
     → ((l : Ledger) (d : Desk) (s : Session) → Q l.messages → Stands b w.shard.partition l d → Facts spaces w.shard.partition l s → Kept spaces b w.shard.partition l s.number (f d s))
     → (h : Good spaces b w) → Q h.ledger.messages → Good spaces b (all_sessions f me shape w)
-all_keeps spaces b shape f Q more w keeps h q =
+all_keeps spaces b shape one f Q more w keeps h q =
     let p = w.shard.partition in
     let ss = w.shard.coordinator.sessions in
-    let st : Stands b p h.ledger (desk_of me shape w) = record { actor = refl; base = refl; seq = h.seq; messages = h.messages; history = h.history } in
+    let st : Stands b p h.ledger (desk_of me shape w) = record { actor = refl; one = one; base = refl; seq = h.seq; messages = h.messages; history = h.history } in
     let e = each_keeps spaces b p f Q more keeps h.ledger (desk_of me shape w) 1 ss q st h.facts.part h.facts.all h.facts.sessions in
     record {
       ledger = e.ledger;
@@ -145,14 +147,14 @@ commit_keeps spaces b w tid v h asked =
     commit_by (λ p'. Good spaces b (with_partition w p' [])) w.shard.partition tid v (unmoved spaces b w h)
     (λ i q got here of le. silent_keeps spaces b w (committed me w.shard.partition v i q) h (commit_moves spaces w.shard.partition h.ledger tid v i q h.facts.part h.facts.all asked got here of le))
 
-take_message_keeps : (spaces : Spaces) (b : Ledger) (shape : Shape) (from : Actor) (w : Went) (m : Message) → (h : Good spaces b w) → In m h.ledger.messages → Good spaces b (take_message me shape from w m)
-take_message_keeps spaces b shape from w (message.Get tid place at sn item op own) h i =
+take_message_keeps : (spaces : Spaces) (b : Ledger) (shape : Shape) → shape.parts ≡ 1 → (from : Actor) (w : Went) (m : Message) → (h : Good spaces b w) → In m h.ledger.messages → Good spaces b (take_message me shape from w m)
+take_message_keeps spaces b shape one from w (message.Get tid place at sn item op own) h i =
     silent_keeps spaces b w (get me w.shard.partition (record { from = from.actor; tid = tid; place = place; at = at; snapshot = sn; item = item; op = op; own = own })) h
     (get_moves spaces w.shard.partition h.ledger (record { from = from.actor; tid = tid; place = place; at = at; snapshot = sn; item = item; op = op; own = own }) h.facts.part h.facts.all i)
-take_message_keeps spaces b shape from w (message.Version v) h i = all_keeps spaces b shape (version v) (λ ms. In (message.Version v) ms) (λ ms ms' g q. in_later _ g q) w (λ l d s q st f. version_keeps spaces b w.shard.partition v l d s q st f) h i
-take_message_keeps spaces b shape from w (message.Prepare tid sn ws) h i = cond_both (may_prepare me w.shard.partition tid sn) _ _ (Good spaces b) (λ e. prepares_keeps spaces b from w tid sn ws h i e) (λ _. h)
-take_message_keeps spaces b shape from w (message.Prepared tid ts) h i = all_keeps spaces b shape (prepared from.actor tid ts) (λ ms. In (message.Prepared tid ts) ms) (λ ms ms' g q. in_later _ g q) w (λ l d s q st f. prepared_keeps spaces b w.shard.partition from.actor tid ts l d s q st f) h i
-take_message_keeps spaces b shape from w (message.Commit tid v) h i = commit_keeps spaces b w tid v h i
+take_message_keeps spaces b shape one from w (message.Version v) h i = all_keeps spaces b shape one (version v) (λ ms. In (message.Version v) ms) (λ ms ms' g q. in_later _ g q) w (λ l d s q st f. version_keeps spaces b w.shard.partition v l d s q st f) h i
+take_message_keeps spaces b shape one from w (message.Prepare tid sn ws) h i = cond_both (may_prepare me w.shard.partition tid sn) _ _ (Good spaces b) (λ e. prepares_keeps spaces b from w tid sn ws h i e) (λ _. h)
+take_message_keeps spaces b shape one from w (message.Prepared tid ts) h i = all_keeps spaces b shape one (prepared from.actor tid ts) (λ ms. In (message.Prepared tid ts) ms) (λ ms ms' g q. in_later _ g q) w (λ l d s q st f. prepared_keeps spaces b w.shard.partition from.actor tid ts l d s q st f) h i
+take_message_keeps spaces b shape one from w (message.Commit tid v) h i = commit_keeps spaces b w tid v h i
 
 -- AN EVENT
 abbrev pub IsSent : Ledger → Event → Type 0
@@ -161,47 +163,43 @@ IsSent b (event.Bytes coord session piece) = Unit {0}
 IsSent b (event.Close coord session) = Unit {0}
 IsSent b (event.Take packet) = In packet.message b.messages
 
--- the settings of a site with these spaces
-abbrev pub settings : Spaces → Settings
-settings spaces = record { shape = lone; catalog = spaces }
-
-take_event_keeps : (spaces : Spaces) (b : Ledger) (full : Bool) (w : Went) (e : Event) → IsSent b e → Good spaces b w → Good spaces b (take_event me (settings spaces) full w e)
+take_event_keeps : (settings : Settings) → HasOnePartition settings → (b : Ledger) (full : Bool) (w : Went) (e : Event) → IsSent b e → Good settings.catalog b w → Good settings.catalog b (take_event me settings full w e)
 unfolding take_event
-take_event_keeps spaces b full w (event.Open coord) i h = cond_both full (refused_open coord lone w) (opened coord w) (Good spaces b) (λ _. refused_open_keeps spaces b coord lone w h) (λ _. opened_keeps spaces b coord w h)
-take_event_keeps spaces b full w (event.Bytes coord session piece) i h = all_keeps spaces b lone (bytes spaces session piece) (λ ms. Unit {0}) (λ ms ms' g q. tt) w (λ l d s q st f. bytes_keeps spaces b w.shard.partition session piece l d s st f) h tt
-take_event_keeps spaces b full w (event.Close coord session) i h = all_keeps spaces b lone (close session) (λ ms. Unit {0}) (λ ms ms' g q. tt) w (λ l d s q st f. close_keeps spaces b w.shard.partition session l d s st f) h tt
-take_event_keeps spaces b full w (event.Take packet) i h =
-    cond_both (is_for me spaces packet) (take_message me lone packet.from w packet.message) w (Good spaces b)
-    (λ _. take_message_keeps spaces b lone packet.from w packet.message h (still_in spaces b w h packet.message i))
+take_event_keeps settings one b full w (event.Open coord) i h = cond_both full (refused_open coord settings.shape w) (opened coord w) (Good settings.catalog b) (λ _. refused_open_keeps settings.catalog b coord settings.shape w h) (λ _. opened_keeps settings.catalog b coord w h)
+take_event_keeps settings one b full w (event.Bytes coord session piece) i h = all_keeps settings.catalog b settings.shape one.partition (bytes settings.catalog session piece) (λ ms. Unit {0}) (λ ms ms' g q. tt) w (λ l d s q st f. bytes_keeps settings.catalog b w.shard.partition session piece l d s st f) h tt
+take_event_keeps settings one b full w (event.Close coord session) i h = all_keeps settings.catalog b settings.shape one.partition (close session) (λ ms. Unit {0}) (λ ms ms' g q. tt) w (λ l d s q st f. close_keeps settings.catalog b w.shard.partition session l d s st f) h tt
+take_event_keeps settings one b full w (event.Take packet) i h =
+    cond_both (is_for me settings packet) (take_message me settings.shape packet.from w packet.message) w (Good settings.catalog b)
+    (λ _. take_message_keeps settings.catalog b settings.shape one.partition packet.from w packet.message h (still_in settings.catalog b w h packet.message i))
     (λ _. h)
 
-wake_keeps : (spaces : Spaces) (b : Ledger) (w : Went) → Good spaces b w → Good spaces b (wake me (settings spaces) w)
+wake_keeps : (settings : Settings) → HasOnePartition settings → (b : Ledger) (w : Went) → Good settings.catalog b w → Good settings.catalog b (wake me settings w)
 unfolding wake
-wake_keeps spaces b w h =
+wake_keeps settings one b w h =
     let p = w.shard.partition in
-    let a = moves_keeps spaces b w (after_answers p) (versions me spaces (known me p) p.log p.parked) h (answers_moves spaces p h.ledger h.facts.part) (answers_all spaces p h.ledger h.facts.all) in
-    all_keeps spaces b lone (run_session spaces) (λ ms. Unit {0}) (λ ms ms' g q. tt) (answers me spaces w) (λ l d s q st f. run_session_keeps spaces b (answers me spaces w).shard.partition l d s st f) a tt
+    let a = moves_keeps settings.catalog b w (after_answers p) (versions me settings.catalog (known me p) p.log p.parked) h (answers_moves settings.catalog p h.ledger h.facts.part) (answers_all settings.catalog p h.ledger h.facts.all) in
+    all_keeps settings.catalog b settings.shape one.partition (run_session settings.catalog) (λ ms. Unit {0}) (λ ms ms' g q. tt) (answers me settings.catalog w) (λ l d s q st f. run_session_keeps settings.catalog b (answers me settings.catalog w).shard.partition l d s st f) a tt
 
 -- THE SITE
-abbrev pub site_of : Spaces → Shard → Site
-site_of spaces shard = record { number = 1; settings = settings spaces; shards = shard ∷ [] }
+abbrev pub site_of : Settings → Shard → Site
+site_of settings shard = record { number = 1; settings = settings; shards = shard ∷ [] }
 
 -- a step, before which there was the ledger b
-pub record StepGood (spaces : Spaces) (b : Ledger) (r : Stepped) : Type 0 where
+pub record StepGood (settings : Settings) (b : Ledger) (r : Stepped) : Type 0 where
   pub shard : Shard
-  pub site_is : r.site ≡ site_of spaces shard
-  pub good : Good spaces b (record { shard = shard; out = r.out })
+  pub site_is : r.site ≡ site_of settings shard
+  pub good : Good settings.catalog b (record { shard = shard; out = r.out })
 
-begins_good : (spaces : Spaces) (shard : Shard) (b : Ledger) → shard.coordinator.seq ≡ b.seq → ActorFacts spaces shard.partition shard.coordinator.sessions b → Good spaces b (record { shard = shard; out = no_outputs })
-begins_good spaces shard b e f = record { ledger = b; seq = e; messages = sym (append-nil b.messages); history = refl; facts = f }
+begins_good : (settings : Settings) (shard : Shard) (b : Ledger) → shard.coordinator.seq ≡ b.seq → ActorFacts settings.catalog shard.partition shard.coordinator.sessions b → Good settings.catalog b (record { shard = shard; out = no_outputs })
+begins_good settings shard b e f = record { ledger = b; seq = e; messages = sym (append-nil b.messages); history = refl; facts = f }
 
-step_of_keeps : (spaces : Spaces) (shard : Shard) (b : Ledger) (e : Event) (a : ℕ) → IsSent b e → Good spaces b (record { shard = shard; out = no_outputs }) → StepGood spaces b (step_of (site_of spaces shard) e (record { site = 1; actor = a }) (shard_at (shard ∷ []) a))
-step_of_keeps spaces shard b e zero i h = record { shard = shard; site_is = refl; good = h }
-step_of_keeps spaces shard b e (suc zero) i h =
-    let full = is_full (site_of spaces shard) in
-    let w = wake me (settings spaces) (take_event me (settings spaces) full (record { shard = shard; out = no_outputs }) e) in
-    record { shard = w.shard; site_is = refl; good = wake_keeps spaces b _ (take_event_keeps spaces b full (record { shard = shard; out = no_outputs }) e i h) }
-step_of_keeps spaces shard b e (suc (suc a)) i h =
+step_of_keeps : (settings : Settings) → HasOnePartition settings → (shard : Shard) (b : Ledger) (e : Event) (a : ℕ) → IsSent b e → Good settings.catalog b (record { shard = shard; out = no_outputs }) → StepGood settings b (step_of (site_of settings shard) e (record { site = 1; actor = a }) (shard_at (shard ∷ []) a))
+step_of_keeps settings one shard b e zero i h = record { shard = shard; site_is = refl; good = h }
+step_of_keeps settings one shard b e (suc zero) i h =
+    let full = is_full (site_of settings shard) in
+    let w = wake me settings (take_event me settings full (record { shard = shard; out = no_outputs }) e) in
+    record { shard = w.shard; site_is = refl; good = wake_keeps settings one b _ (take_event_keeps settings one b full (record { shard = shard; out = no_outputs }) e i h) }
+step_of_keeps settings one shard b e (suc (suc a)) i h =
     let none : slice_get (shard ∷ []) (suc (suc a) - 1) ≡ None = slice_get_past (shard ∷ []) (suc (suc a) - 1) (omega arith) in
     rw (lt-ltb 0 (suc (suc a)) (omega arith), none) (record { shard = shard; site_is = refl; good = h })
 
@@ -209,33 +207,33 @@ step_of_keeps spaces shard b e (suc (suc a)) i h =
 abbrev pub ledger_of : Shard → List Packet → List Note → Ledger
 ledger_of shard packets notes = record { seq = shard.coordinator.seq; messages = messages_of packets; history = history_of notes }
 
-pub record WorldFacts (spaces : Spaces) (w : World) : Type 0 where
+pub record WorldFacts (settings : Settings) (w : World) : Type 0 where
   pub shard : Shard
-  pub sites : w.sites ≡ site_of spaces shard ∷ []
-  pub facts : ActorFacts spaces shard.partition shard.coordinator.sessions (ledger_of shard w.packets w.notes)
+  pub sites : w.sites ≡ site_of settings shard ∷ []
+  pub facts : ActorFacts settings.catalog shard.partition shard.coordinator.sessions (ledger_of shard w.packets w.notes)
 
 -- a step of the only site
-stepped_keeps : (spaces : Spaces) (w : World) (b : Ledger) (r : Stepped) → b.messages ≡ messages_of w.packets → b.history ≡ history_of w.notes → StepGood spaces b r → WorldFacts spaces (record w { sites = r.site ∷ []; packets = w.packets ++ r.out.packets; notes = w.notes ++ r.out.notes })
-stepped_keeps spaces w b r ms hs h =
+stepped_keeps : (settings : Settings) (w : World) (b : Ledger) (r : Stepped) → b.messages ≡ messages_of w.packets → b.history ≡ history_of w.notes → StepGood settings b r → WorldFacts settings (record w { sites = r.site ∷ []; packets = w.packets ++ r.out.packets; notes = w.notes ++ r.out.notes })
+stepped_keeps settings w b r ms hs h =
     let l = h.good.ledger in
     let new = ledger_of h.shard (w.packets ++ r.out.packets) (w.notes ++ r.out.notes) in
     let m : l.messages ≡ new.messages = h.good.messages ∙ ap (λ xs. xs ++ messages_of r.out.packets) ms ∙ sym (messages_of-append w.packets r.out.packets) in
     let k : l.history ≡ new.history = h.good.history ∙ ap (λ x. noted_all x r.out.notes) hs ∙ sym (noted_all-append no_history w.notes r.out.notes) in
     let e : l ≡ new = λ i. record { seq = sym h.good.seq i; messages = m i; history = k i } in
-    record { shard = h.shard; sites = ap (λ s. s ∷ []) h.site_is; facts = subst (ActorFacts spaces h.shard.partition h.shard.coordinator.sessions) e h.good.facts }
+    record { shard = h.shard; sites = ap (λ s. s ∷ []) h.site_is; facts = subst (ActorFacts settings.catalog h.shard.partition h.shard.coordinator.sessions) e h.good.facts }
 
 -- an event at a site of the only one
-at_keeps : (spaces : Spaces) (w : World) (shard : Shard) (s : ℕ) (e : Event) → ActorFacts spaces shard.partition shard.coordinator.sessions (ledger_of shard w.packets w.notes) → IsSent (ledger_of shard w.packets w.notes) e → WorldFacts spaces (at_site (record w { sites = site_of spaces shard ∷ [] }) s e)
-at_keeps spaces w shard zero e f i = record { shard = shard; sites = refl; facts = f }
-at_keeps spaces w shard (suc zero) e f i =
+at_keeps : (settings : Settings) → HasOnePartition settings → (w : World) (shard : Shard) (s : ℕ) (e : Event) → ActorFacts settings.catalog shard.partition shard.coordinator.sessions (ledger_of shard w.packets w.notes) → IsSent (ledger_of shard w.packets w.notes) e → WorldFacts settings (at_site (record w { sites = site_of settings shard ∷ [] }) s e)
+at_keeps settings one w shard zero e f i = record { shard = shard; sites = refl; facts = f }
+at_keeps settings one w shard (suc zero) e f i =
     let b = ledger_of shard w.packets w.notes in
-    stepped_keeps spaces w b (site_step (site_of spaces shard) e) refl refl (step_of_keeps spaces shard b e (actor_of e) i (begins_good spaces shard b refl f))
-at_keeps spaces w shard (suc (suc s)) e f i =
-    let none : slice_get (site_of spaces shard ∷ []) (suc (suc s) - 1) ≡ None = slice_get_past (site_of spaces shard ∷ []) (suc (suc s) - 1) (omega arith) in
+    stepped_keeps settings w b (site_step (site_of settings shard) e) refl refl (step_of_keeps settings one shard b e (actor_of e) i (begins_good settings shard b refl f))
+at_keeps settings one w shard (suc (suc s)) e f i =
+    let none : slice_get (site_of settings shard ∷ []) (suc (suc s) - 1) ≡ None = slice_get_past (site_of settings shard ∷ []) (suc (suc s) - 1) (omega arith) in
     rw (lt-ltb 0 (suc (suc s)) (omega arith), none) (record { shard = shard; sites = refl; facts = f })
 
-at_site_keeps : (spaces : Spaces) (w : World) (s : ℕ) (e : Event) → (h : WorldFacts spaces w) → IsSent (ledger_of h.shard w.packets w.notes) e → WorldFacts spaces (at_site w s e)
-at_site_keeps spaces w s e h i = subst (λ sites. WorldFacts spaces (at_site (record w { sites = sites }) s e)) (sym h.sites) (at_keeps spaces w h.shard s e h.facts i)
+at_site_keeps : (settings : Settings) → HasOnePartition settings → (w : World) (s : ℕ) (e : Event) → (h : WorldFacts settings w) → IsSent (ledger_of h.shard w.packets w.notes) e → WorldFacts settings (at_site w s e)
+at_site_keeps settings one w s e h i = subst (λ sites. WorldFacts settings (at_site (record w { sites = sites }) s e)) (sym h.sites) (at_keeps settings one w h.shard s e h.facts i)
 
 -- a packet that was sent
 nth_in : {X : Type 0} (xs : List X) (k : ℕ) (x : X) → nth xs k ≡ Some x → In x xs
@@ -250,24 +248,24 @@ in_messages q [] h = absurd h
 in_messages q (p ∷ ps) (inl e) = inl (ap (λ (x : Packet). x.message) e)
 in_messages q (p ∷ ps) (inr h) = inr (in_messages q ps h)
 
-comes_keeps : (spaces : Spaces) (w : World) (k : ℕ) (o : Option Packet) → nth w.packets k ≡ o → WorldFacts spaces w → WorldFacts spaces (comes w k o)
-comes_keeps spaces w k None e h = h
-comes_keeps spaces w k (Some packet) e h =
+comes_keeps : (settings : Settings) → HasOnePartition settings → (w : World) (k : ℕ) (o : Option Packet) → nth w.packets k ≡ o → WorldFacts settings w → WorldFacts settings (comes w k o)
+comes_keeps settings one w k None e h = h
+comes_keeps settings one w k (Some packet) e h =
     let i = in_messages packet w.packets (nth_in w.packets k packet e) in
-    let h' : WorldFacts spaces (delivered w k) = record { shard = h.shard; sites = h.sites; facts = h.facts } in
-    at_site_keeps spaces (delivered w k) packet.to.site (event.Take packet) h' i
+    let h' : WorldFacts settings (delivered w k) = record { shard = h.shard; sites = h.sites; facts = h.facts } in
+    at_site_keeps settings one (delivered w k) packet.to.site (event.Take packet) h' i
 
-pub happens_keeps : (spaces : Spaces) (w : World) (e : Happening) → WorldFacts spaces w → WorldFacts spaces (happens w e)
+pub happens_keeps : (settings : Settings) → HasOnePartition settings → (w : World) (e : Happening) → WorldFacts settings w → WorldFacts settings (happens w e)
 unfolding happens
-happens_keeps spaces w (Opens site coord) h = at_site_keeps spaces w site (event.Open coord) h tt
-happens_keeps spaces w (Sends site coord session piece) h = at_site_keeps spaces w site (event.Bytes coord session piece) h tt
-happens_keeps spaces w (Closes site coord session) h = at_site_keeps spaces w site (event.Close coord session) h tt
-happens_keeps spaces w (Comes k) h = comes_keeps spaces w k (nth w.packets k) refl h
+happens_keeps settings one w (Opens site coord) h = at_site_keeps settings one w site (event.Open coord) h tt
+happens_keeps settings one w (Sends site coord session piece) h = at_site_keeps settings one w site (event.Bytes coord session piece) h tt
+happens_keeps settings one w (Closes site coord session) h = at_site_keeps settings one w site (event.Close coord session) h tt
+happens_keeps settings one w (Comes k) h = comes_keeps settings one w k (nth w.packets k) refl h
 
-pub start_facts : (spaces : Spaces) → WorldFacts spaces (start spaces)
-start_facts spaces = record {
+pub start_facts : (settings : Settings) → HasOnePartition settings → WorldFacts settings (start settings)
+start_facts settings one = record {
   shard = new_shard;
-  sites = refl;
+  sites = λ i. map (λ n. record { number = n; settings = settings; shards = new_shards (one.partition i) }) (range_with_len 1 (2 * one.site i + 1));
   facts = record {
     part = record {
       ok = record { once = record { prepared_done = λ q i. absurd i; log_done = λ e i. absurd i; prepared_apart = tt; log_apart = tt; apart = λ q e i j. absurd i }; below_clock = λ q i. absurd i; positive = λ q i. absurd i; small = omega arith; got = refl };
@@ -297,6 +295,6 @@ start_facts spaces = record {
   };
 }
 
-pub run_facts : (spaces : Spaces) (es : List Happening) (w : World) → WorldFacts spaces w → WorldFacts spaces (run es w)
-run_facts spaces [] w h = h
-run_facts spaces (e ∷ es) w h = run_facts spaces es (happens w e) (happens_keeps spaces w e h)
+pub run_facts : (settings : Settings) → HasOnePartition settings → (es : List Happening) (w : World) → WorldFacts settings w → WorldFacts settings (run es w)
+run_facts settings one [] w h = h
+run_facts settings one (e ∷ es) w h = run_facts settings one es (happens w e) (happens_keeps settings one w e h)

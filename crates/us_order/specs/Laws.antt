@@ -1,36 +1,36 @@
--- What holds after every run of the machine.
+-- What holds after every run of the machine, in a store with one partition.
 use Rattle.std.specs.Prelude.{◌≡◌, List}
 use Rattle.us_kind.specs.Words.{In}
 use Rattle.us_exec.specs.declared.SessionName.{SessionName}
 use Rattle.us_exec.specs.Past.{count_in}
-use Rattle.us_exec.specs.Conflict.{Declared}
 use Rattle.us_exec.specs.Consistency.{IsPor}
-use Rattle.us_model.specs.State.{Spaces}
+use Rattle.us_model.specs.declared.settings.Settings.{Settings}
 use Rattle.us_model.specs.Worlds.{Happening, start, run}
 use Rattle.us_model.specs.Executions.{Begun, past_of, history_of, execution_of}
+use Rattle.us_order.specs.Premise.{HasOnePartition}
 use Rattle.us_order.specs.Pasts.{direct_count, direct_execution}
 use Rattle.us_order.specs.Ascending.{Ascends}
 use Rattle.us_exec.specs.WellFormed.{IsWellFormed}
 
--- whatever spaces are configured, whatever happens, and whatever conflicts are declared, the execution is closed, valued and ordered
+-- whatever happens, the execution is closed, valued and ordered, by the conflicts that are declared
 abbrev pub EveryRunIsPor : Type 0
-EveryRunIsPor = (spaces : Spaces) (hs : List Happening) (declared : Declared) → IsPor declared (execution_of (run hs (start spaces)).notes)
+EveryRunIsPor = (settings : Settings) → HasOnePartition settings → (hs : List Happening) → IsPor settings.conflicts (execution_of (run hs (start settings)).notes)
 
 -- each past counts, of each session, what can be counted in one step
 abbrev pub PastsAreDirect : Type 0
 PastsAreDirect =
-    (spaces : Spaces) (hs : List Happening) (t : Begun) (s : SessionName)
-    → In t (history_of (run hs (start spaces)).notes).begun
-    → count_in s (past_of (history_of (run hs (start spaces)).notes).committed t) ≡ direct_count s t (history_of (run hs (start spaces)).notes).committed
+    (settings : Settings) → HasOnePartition settings → (hs : List Happening) (t : Begun) (s : SessionName)
+    → In t (history_of (run hs (start settings)).notes).begun
+    → count_in s (past_of (history_of (run hs (start settings)).notes).committed t) ≡ direct_count s t (history_of (run hs (start settings)).notes).committed
 
 -- the execution of each run is the one whose pasts are counted in one step
 abbrev pub ExecutionsAreDirect : Type 0
-ExecutionsAreDirect = (spaces : Spaces) (hs : List Happening) → execution_of (run hs (start spaces)).notes ≡ direct_execution (history_of (run hs (start spaces)).notes)
+ExecutionsAreDirect = (settings : Settings) → HasOnePartition settings → (hs : List Happening) → execution_of (run hs (start settings)).notes ≡ direct_execution (history_of (run hs (start settings)).notes)
 
 -- after each run, in each session the transactions and their vectors ascend
 abbrev pub HistoriesAscend : Type 0
-HistoriesAscend = (spaces : Spaces) (hs : List Happening) → Ascends (history_of (run hs (start spaces)).notes)
+HistoriesAscend = (settings : Settings) → HasOnePartition settings → (hs : List Happening) → Ascends (history_of (run hs (start settings)).notes)
 
 -- the execution of each run is well formed
 abbrev pub ExecutionsAreWellFormed : Type 0
-ExecutionsAreWellFormed = (spaces : Spaces) (hs : List Happening) → IsWellFormed (execution_of (run hs (start spaces)).notes)
+ExecutionsAreWellFormed = (settings : Settings) → HasOnePartition settings → (hs : List Happening) → IsWellFormed (execution_of (run hs (start settings)).notes)

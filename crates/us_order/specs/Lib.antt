@@ -1,3 +1,4 @@
+pub mod Premise
 pub mod Pasts
 pub mod Ascending
 pub mod Numbers

@@ -5,7 +5,7 @@ ghost use Rattle.us_order.specs.Laws.{EveryRunIsPor, ExecutionsAreDirect, Execut
 
 /// Whatever clients send and whichever packets come, in whatever order and however often, the execution of the run is
 /// consistent: its pasts are closed and stand earlier, each answer is its operation's value over its past and its own
-/// transaction's earlier operations, and strong transactions that conflict are ordered, whatever conflicts are declared.
+/// transaction's earlier operations, and strong transactions that conflict as declared are ordered.
 pub fn every_run_is_por()
     ensures { EveryRunIsPor }
 {}

@@ -1,4 +1,5 @@
-pub mod Actors
+pub mod Written
+pub mod Posts
 pub mod EachSession
 pub mod Lengths
 pub mod LogPlaces

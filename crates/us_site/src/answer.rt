@@ -1,15 +1,18 @@
 //! The partitions' answers come to a session.
 ghost use Rattle.std.specs.Prelude.{◌≡◌, ◌<◌, ◌++◌, ◌∷◌, [], ◌==◌, ◌&&◌, not, nat_le, IfOk, OnOk, Some};
 ghost use Rattle.std.specs.Option.{option_to_list};
+ghost use Rattle.us_base.specs.Shape.{IsShape};
 ghost use Rattle.us_value.specs.Lengths.{capped};
 ghost use Rattle.std.specs.List.{list_any};
 ghost use Rattle.us_kind.specs.Words.{tid_eq};
-ghost use Rattle.us_model.specs.Sessions.{tell, with_note, is_awaited, write_of, writes_length, turned_down, recorded_by, version, without, greatest, told_all, prepared, prepared_in};
+ghost use Rattle.us_model.specs.Sessions.{tell, with_note, with_packets, commits, is_awaited, write_of, writes_length, turned_down, recorded_by, version, without, greatest, told_all, prepared, prepared_in};
 
+use crate::placement::partitions_written;
 use crate::reading::MOST_WRITES;
-use crate::session::{ANSWER_TOO_LONG, HOME, WRITES_TOO_LONG, end, refuse, send, tell_client};
+use crate::session::{ANSWER_TOO_LONG, WRITES_TOO_LONG, end, refuse, send, tell_client};
 use std::alloc::Global;
 use std::mem;
+use us_base::Vector;
 use us_client_wire::Reply;
 use us_exec::Done;
 use us_kind::{Items, Memory, Tid};
@@ -282,6 +285,16 @@ fn greatest_of(told: &[PreparedAt]) -> u64
     most
 }
 
+/// Tells each of these partitions that the transaction is committed with this vector.
+fn send_commits(desk: &mut Desk, parts: &[u8], tid: Tid, vector: Vector) -> Result<(), Memory>
+    ensures { OnOk result (desk.new ≡ with_packets desk.old (commits desk.old tid vector parts.now)) }
+{
+    for part in parts {
+        send(desk, *part, Message::Commit { tid, vector })?;
+    }
+    Ok(())
+}
+
 /// Once no partition is missing, the vector is decided and sent.
 fn note_prepared(
     alloc: Global,
@@ -292,7 +305,8 @@ fn note_prepared(
     missing: Items<u8>,
     told: Items<PreparedAt>,
 ) -> Result<(), Memory>
-    requires { desk.old.me.site < 10 }
+    requires site { desk.old.me.site < 10 }
+    requires shape { IsShape desk.old.shape }
     ensures desk { OnOk result (desk.new ≡ (told_all desk.old (record session.old { running = Some transaction }) at transaction missing told).desk) }
     ensures session { OnOk result (session.new ≡ (told_all desk.old (record session.old { running = Some transaction }) at transaction missing told).session) }
 {
@@ -305,7 +319,8 @@ fn note_prepared(
     let vector = transaction
         .snapshot
         .with_entry(desk.me.site, greatest_of(told.as_slice()));
-    send(desk, HOME, Message::Commit { tid, vector })?;
+    let parts = partitions_written(alloc, desk.shape, transaction.writes.as_slice())?;
+    send_commits(desk, parts.as_slice(), tid, vector)?;
     end(alloc, desk, session, at, tid, vector)
 }
 
@@ -322,7 +337,8 @@ fn hear_prepared(
     mut told: Items<PreparedAt>,
     transaction: Transaction,
 ) -> Result<(), Memory>
-    requires { desk.old.me.site < 10 }
+    requires site { desk.old.me.site < 10 }
+    requires shape { IsShape desk.old.shape }
     ensures desk { OnOk result (desk.new ≡ (prepared_in one.part tid.now one.ts desk.old (record session.old { running = Some transaction; waits = Waiting.Prepared at missing told }) (Waiting.Prepared at missing told) (Some transaction)).desk) }
     ensures session { OnOk result (session.new ≡ (prepared_in one.part tid.now one.ts desk.old (record session.old { running = Some transaction; waits = Waiting.Prepared at missing told }) (Waiting.Prepared at missing told) (Some transaction)).session) }
 {
@@ -345,7 +361,8 @@ pub fn take_prepared(
     one: PreparedAt,
     tid: &Tid,
 ) -> Result<(), Memory>
-    requires { desk.old.me.site < 10 }
+    requires site { desk.old.me.site < 10 }
+    requires shape { IsShape desk.old.shape }
     ensures desk { OnOk result (desk.new ≡ (prepared one.part tid.now one.ts desk.old session.old).desk) }
     ensures session { OnOk result (session.new ≡ (prepared one.part tid.now one.ts desk.old session.old).session) }
 {

@@ -1,5 +1,6 @@
 //! The sessions of a coordinator take an event in turn.
 ghost use Rattle.std.specs.Prelude.{◌≡◌, ◌<◌, OnOk};
+ghost use Rattle.us_base.specs.Shape.{IsShape};
 ghost use Rattle.us_model.specs.Sessions.{each_session};
 ghost use Rattle.us_site.specs.Steps.{acts};
 
@@ -30,7 +31,8 @@ fn act(
     session: &mut Session,
     turn: &Turn,
 ) -> Result<(), Memory>
-    requires { desk.old.me.site < 10 }
+    requires site { desk.old.me.site < 10 }
+    requires shape { IsShape desk.old.shape }
     ensures desk { OnOk result (desk.new ≡ (acts catalog.now turn.now desk.old session.old).desk) }
     ensures session { OnOk result (session.new ≡ (acts catalog.now turn.now desk.old session.old).session) }
 {
@@ -53,7 +55,8 @@ pub fn each(
     sessions: &mut [Session],
     turn: &Turn,
 ) -> Result<(), Memory>
-    requires { desk.old.me.site < 10 }
+    requires site { desk.old.me.site < 10 }
+    requires shape { IsShape desk.old.shape }
     ensures desk { OnOk result (desk.new ≡ (each_session (acts catalog.now turn.now) desk.old sessions.old).desk) }
     ensures sessions { OnOk result (sessions.new ≡ (each_session (acts catalog.now turn.now) desk.old sessions.old).sessions) }
 {

@@ -6,6 +6,7 @@ mod codec;
 mod coordinator;
 mod log;
 mod partition;
+mod placement;
 mod reading;
 mod running;
 mod session;

@@ -1,5 +1,6 @@
 //! A session runs: its requests are performed in order, until one waits.
 ghost use Rattle.std.specs.Prelude.{◌≡◌, OnOk};
+ghost use Rattle.us_base.specs.Shape.{IsShape};
 ghost use Rattle.us_model.specs.Sessions.{run_session};
 
 use crate::session::{perform_request, waits_for_nothing};
@@ -15,6 +16,7 @@ pub fn run(
     desk: &mut Desk,
     session: &mut Session,
 ) -> Result<(), Memory>
+    requires { IsShape desk.old.shape }
     ensures desk { OnOk result (desk.new ≡ (run_session catalog.now desk.old session.old).desk) }
     ensures session { OnOk result (session.new ≡ (run_session catalog.now desk.old session.old).session) }
 {

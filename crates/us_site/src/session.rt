@@ -1,11 +1,13 @@
 //! The rules of a coordinator, at one of its sessions.
 ghost use Rattle.std.specs.Prelude.{◌≡◌, ◌+◌, ◌<◌, ◌++◌, ◌∷◌, [], IfOk, OnOk, length, true, false, Some, None};
 ghost use Rattle.us_client_wire.specs.Replies.{reply_spelling};
+ghost use Rattle.us_base.specs.Shape.{IsShape};
 ghost use Rattle.us_base.specs.Vector.{join};
 ghost use Rattle.us_value.specs.Catalogs.{kind_in};
-ghost use Rattle.us_model.specs.Sessions.{with_packets, with_note, reply_out, tell, session_name, refused, own_effects, asked_for, objection, begin, perform, commit_causal, abandon, request, to_partition, no_stream, is_nothing};
+ghost use Rattle.us_model.specs.Sessions.{with_packets, with_note, reply_out, tell, session_name, refused, own_effects, asked_for, prepares, objection, begin, perform, commit_causal, abandon, request, to_partition, no_stream, is_nothing};
 
 use crate::codec::spelled;
+use crate::placement::{home, partitions_written, writes_on};
 use std::alloc::Global;
 use us_base::{Limits, Vector};
 use us_client_wire::{Reply, Request};
@@ -42,9 +44,6 @@ pub const ANSWER_TOO_LONG: u8 = 8;
 pub const TOO_MANY_REQUESTS: u8 = 9;
 
 pub const TOO_MANY_SESSIONS: u8 = 11;
-
-/// The partition that keeps every item.
-pub const HOME: u8 = 1;
 
 /// The number after it. One that doesn't fit its type counts as want of memory.
 pub fn after(n: u64) -> Result<u64, Memory>
@@ -225,13 +224,14 @@ fn ask(
     item: Item,
     op: Op,
 ) -> Result<(), Memory>
-    requires { length transaction.ops < 64 }
+    requires room { length transaction.ops < 64 }
+    requires shape { IsShape desk.old.shape }
     ensures desk { OnOk result (desk.new ≡ (asked_for desk.old (record session.old { running = Some transaction }) at transaction item op).desk) }
     ensures session { OnOk result (session.new ≡ (asked_for desk.old (record session.old { running = Some transaction }) at transaction item op).session) }
 {
     let place = (transaction.ops.len() + 1) as u8;
     let message = question(alloc, &transaction, at, place, &item, &op)?;
-    send(desk, HOME, message)?;
+    send(desk, home(desk.shape, &item), message)?;
     session.running = Some(transaction);
     session.waits = Waiting::Version {
         at,
@@ -264,6 +264,7 @@ fn perform(
     item: Item,
     op: Op,
 ) -> Result<(), Memory>
+    requires { IsShape desk.old.shape }
     ensures desk { OnOk result (desk.new ≡ (perform catalog.now desk.old session.old at item op session.old.running).desk) }
     ensures session { OnOk result (session.new ≡ (perform catalog.now desk.old session.old at item op session.old.running).session) }
 {
@@ -277,15 +278,25 @@ fn perform(
     ask(alloc, desk, session, at, transaction, item, op)
 }
 
-/// Copies of the writes.
-fn copies(alloc: Global, writes: &[Write]) -> Result<Items<Write>, Memory>
-    ensures { IfOk result (λ copies. copies ≡ writes.now) }
+/// Asks each of these partitions to prepare what the transaction writes there.
+fn send_prepares(
+    alloc: Global,
+    desk: &mut Desk,
+    transaction: &Transaction,
+    parts: &[u8],
+) -> Result<(), Memory>
+    requires { IsShape desk.old.shape }
+    ensures { OnOk result (desk.new ≡ with_packets desk.old (prepares desk.old transaction.now parts.now)) }
 {
-    let mut copies = Items::new(alloc);
-    for write in writes {
-        copies.push(write.copy()?)?;
+    for part in parts {
+        let message = Message::Prepare {
+            tid: transaction.tid,
+            snapshot: transaction.snapshot,
+            writes: writes_on(alloc, desk.shape, *part, transaction.writes.as_slice())?,
+        };
+        send(desk, *part, message)?;
     }
-    Ok(copies)
+    Ok(())
 }
 
 /// The transaction is committed with this vector.
@@ -312,6 +323,7 @@ pub fn end(
 
 /// Commits the transaction: at once where it wrote nothing, else its writes are to be prepared.
 fn commit(alloc: Global, desk: &mut Desk, session: &mut Session, at: u64) -> Result<(), Memory>
+    requires { IsShape desk.old.shape }
     ensures desk { OnOk result (desk.new ≡ (commit_causal desk.old session.old at session.old.running).desk) }
     ensures session { OnOk result (session.new ≡ (commit_causal desk.old session.old at session.old.running).session) }
 {
@@ -323,18 +335,8 @@ fn commit(alloc: Global, desk: &mut Desk, session: &mut Session, at: u64) -> Res
     if transaction.writes.is_empty() {
         return end(alloc, desk, session, at, tid, snapshot);
     }
-    let writes = copies(alloc, transaction.writes.as_slice())?;
-    send(
-        desk,
-        HOME,
-        Message::Prepare {
-            tid,
-            snapshot,
-            writes,
-        },
-    )?;
-    let mut missing = Items::new(alloc);
-    missing.push(HOME)?;
+    let missing = partitions_written(alloc, desk.shape, transaction.writes.as_slice())?;
+    send_prepares(alloc, desk, transaction, missing.as_slice())?;
     session.waits = Waiting::Prepared {
         at,
         missing,
@@ -368,6 +370,7 @@ pub fn perform_request(
     at: u64,
     asked: Request,
 ) -> Result<(), Memory>
+    requires { IsShape desk.old.shape }
     ensures desk { OnOk result (desk.new ≡ (request catalog.now desk.old session.old at asked).desk) }
     ensures session { OnOk result (session.new ≡ (request catalog.now desk.old session.old at asked).session) }
 {

@@ -1,6 +1,7 @@
 //! A partition and the coordinator of the same number take events.
 ghost use Rattle.std.specs.Prelude.{◌≡◌, ◌<◌, ◌++◌, ◌∷◌, [], ◌==◌, true, IfOk, OnOk, Some, None};
-ghost use Rattle.us_model.specs.Sites.{new_shard, new_session, opened, open_in, all_sessions, take_message, op_is_of, effect_is_of, own_are_of, writes_fit, message_fits, is_for, take_event, wake, no_outputs};
+ghost use Rattle.us_model.specs.Sites.{new_shard, new_session, opened, open_in, all_sessions, take_message, op_is_of, effect_is_of, own_are_of, writes_fit, message_fits, is_partition, is_for, take_event, wake, no_outputs};
+ghost use Rattle.us_base.specs.Shape.{IsShape};
 ghost use Rattle.us_client_wire.specs.Replies.{reply_spelling};
 ghost use Rattle.us_model.specs.Worlds.{waits_in};
 ghost use Rattle.us_site.specs.Steps.{acts};
@@ -9,7 +10,7 @@ use crate::codec::spelled;
 use crate::coordinator::{Turn, each};
 use crate::partition::Part;
 use crate::session::{TOO_MANY_SESSIONS, after, new_stream};
-use crate::waits::{Unanswered, waits_in};
+use crate::waits::{Unanswered, put_waits_in};
 use std::alloc::Global;
 use std::marker::Model;
 use us_base::{Shape, Vector};
@@ -20,9 +21,6 @@ use us_model::{
 };
 use us_peer_wire::{Actor, Message, Packet};
 use us_value::{Catalog, Effect, Kind, Op, Write, effect_fits, op_fits};
-
-/// The partition that there is.
-const PARTITION: u8 = 1;
 
 /// A partition and the coordinator of the same number.
 #[derive(Drop)]
@@ -51,11 +49,11 @@ impl Shard {
         }
     }
 
-    /// The sessions that wait, in order.
-    pub fn waits(&self, alloc: Global, me: &Actor) -> Result<Vec<Unanswered>, Memory>
-        ensures { IfOk result (λ waits. waits.items ≡ waits_in me.now.site me.now.actor self.now.coordinator.sessions) }
+    /// The sessions that wait, in order, are put behind those that are there.
+    pub fn put_waits(&self, me: &Actor, waits: &mut Vec<Unanswered>) -> Result<(), Memory>
+        ensures { OnOk result (waits.new.items ≡ waits.old.items ++ waits_in me.now.site me.now.actor self.now.coordinator.sessions) }
     {
-        waits_in(alloc, me.site, me.actor, self.sessions.as_slice())
+        put_waits_in(me, self.sessions.as_slice(), waits)
     }
 
     /// Each session's turn.
@@ -67,7 +65,8 @@ impl Shard {
         out: Outputs,
         turn: &Turn,
     ) -> Result<Outputs, Memory>
-        requires { me.now.site < 10 }
+        requires site { me.now.site < 10 }
+        requires shape { IsShape settings.now.shape }
         ensures shard { OnOk result (self.new ≡ (all_sessions (acts settings.now.catalog turn.now) me.now settings.now.shape (record { shard = self.old; out = out })).shard) }
         ensures out { IfOk result (λ given. given ≡ (all_sessions (acts settings.now.catalog turn.now) me.now settings.now.shape (record { shard = self.old; out = out })).out) }
     {
@@ -148,6 +147,7 @@ impl Shard {
     ) -> Result<Outputs, Memory>
         requires site { me.now.site < 10 }
         requires actor { me.now.actor < 64 }
+        requires shape { IsShape settings.now.shape }
         ensures shard { OnOk result (self.new ≡ (take_message me.now settings.now.shape from.now (record { shard = self.old; out = out }) message).shard) }
         ensures out { IfOk result (λ given. given ≡ (take_message me.now settings.now.shape from.now (record { shard = self.old; out = out }) message).out) }
     {
@@ -209,6 +209,7 @@ impl Shard {
     ) -> Result<Outputs, Memory>
         requires site { me.now.site < 10 }
         requires actor { me.now.actor < 64 }
+        requires shape { IsShape settings.now.shape }
         ensures shard { OnOk result (self.new ≡ (take_event me.now settings.now full (record { shard = self.old; out = out }) event).shard) }
         ensures out { IfOk result (λ given. given ≡ (take_event me.now settings.now full (record { shard = self.old; out = out }) event).out) }
     {
@@ -230,7 +231,7 @@ impl Shard {
                 self.turn(alloc, me, settings, out, &Turn::Close { number: session })
             }
             Event::Take { packet } => {
-                if !is_taken(me, &settings.catalog, &packet) {
+                if !is_taken(me, settings, &packet) {
                     return Ok(out);
                 }
                 let Packet {
@@ -252,7 +253,8 @@ impl Shard {
         settings: &Settings,
         mut out: Outputs,
     ) -> Result<Outputs, Memory>
-        requires { me.now.site < 10 }
+        requires site { me.now.site < 10 }
+        requires shape { IsShape settings.now.shape }
         ensures shard { OnOk result (self.new ≡ (wake me.now settings.now (record { shard = self.old; out = out })).shard) }
         ensures out { IfOk result (λ given. given ≡ (wake me.now settings.now (record { shard = self.old; out = out })).out) }
     {
@@ -272,6 +274,7 @@ impl Shard {
     ) -> Result<Outputs, Memory>
         requires site { me.now.site < 10 }
         requires actor { me.now.actor < 64 }
+        requires shape { IsShape settings.now.shape }
         ensures shard { OnOk result (self.new ≡ (wake me.now settings.now (take_event me.now settings.now full (record { shard = self.old; out = no_outputs }) event)).shard) }
         ensures out { IfOk result (λ given. given ≡ (wake me.now settings.now (take_event me.now settings.now full (record { shard = self.old; out = no_outputs }) event)).out) }
     {
@@ -376,11 +379,20 @@ fn fits(catalog: &Catalog, message: &Message) -> bool
     }
 }
 
-/// Whether the actor takes the packet: from a partition's actor of the own site, about items of configured spaces.
-fn is_taken(me: &Actor, catalog: &Catalog, packet: &Packet) -> bool
-    ensures { result ≡ is_for me.now catalog.now packet.now }
+/// Whether the actor is that of a partition.
+fn is_partition(shape: Shape, actor: u8) -> bool
+    ensures { result ≡ is_partition shape actor }
 {
-    packet.from.site == me.site && packet.from.actor == PARTITION && fits(catalog, &packet.message)
+    1 <= actor && actor <= shape.parts
+}
+
+/// Whether the actor takes the packet: from a partition's actor of the own site, about items of configured spaces.
+fn is_taken(me: &Actor, settings: &Settings, packet: &Packet) -> bool
+    ensures { result ≡ is_for me.now settings.now packet.now }
+{
+    packet.from.site == me.site
+        && is_partition(settings.shape, packet.from.actor)
+        && fits(&settings.catalog, &packet.message)
 }
 
 /// A session of which nothing has come.

@@ -1,21 +1,18 @@
 //! One site.
-ghost use Rattle.std.specs.Prelude.{◌≡◌, ◌<◌, ◌+◌, ◌∷◌, [], false, is_err, IfOk, OnOk};
-ghost use Rattle.us_model.specs.Sites.{actor_of, site_step};
-ghost use Rattle.us_model.specs.Worlds.{waits_of};
+ghost use Rattle.std.specs.Prelude.{◌≡◌, ◌<◌, ◌≤◌, ◌+◌, ◌++◌, false, is_err, length, nat_le, IfOk, OnOk};
+ghost use Rattle.us_base.specs.Shape.{IsShape};
+ghost use Rattle.us_model.specs.Sites.{actor_of, new_shards, no_outputs, open_at, site_step};
+ghost use Rattle.us_model.specs.Worlds.{waits_at};
 
 use crate::session::after;
 use crate::shard::Shard;
 use crate::waits::Unanswered;
 use std::alloc::Global;
 use std::marker::Model;
-use us_base::{Limits, Shape};
+use us_base::Limits;
 use us_kind::{Items, Memory};
 use us_model::{Event, Outputs, Settings};
 use us_peer_wire::Actor;
-use us_value::Catalog;
-
-/// A store of one site with one partition.
-const LONE: Shape = Shape { f: 0, parts: 1 };
 
 /// How many sessions of a site may be open.
 const SESSIONS: usize = Limits::OPEN_SESSIONS;
@@ -25,40 +22,51 @@ const SESSIONS: usize = Limits::OPEN_SESSIONS;
 pub struct Site {
     number: u8,
     settings: Settings,
-    shard: Shard,
+    shards: Vec<Shard>,
     taken: u64,
     stopped: bool,
 }
 
 impl Model for Site {
-    ghost use Rattle.std.specs.Prelude.{◌<◌, ◌∷◌, []};
+    ghost use Rattle.std.specs.Prelude.{◌≡◌, ◌<◌, length};
+    ghost use Rattle.us_base.specs.Shape.{IsShape};
     ghost use Rattle.us_site.specs.Served.{Served};
 
     ghost Value = { Served };
 
-    ghost view = { λ a. record { site = record { number = a.number; settings = a.settings; shards = a.shard ∷ [] }; taken = a.taken; stopped = a.stopped } };
+    ghost view = { λ a. record { site = record { number = a.number; settings = a.settings; shards = a.shards.items }; taken = a.taken; stopped = a.stopped } };
 
-    ghost invariant = { λ a. a.number < 10 };
+    ghost invariant = { λ a. record { number : a.number < 10; shape : IsShape a.settings.shape; shards : length a.shards.items ≡ a.settings.shape.parts } };
+}
+
+/// A shard for each partition.
+fn new_shards(alloc: Global, parts: u8) -> Result<Vec<Shard>, Memory>
+    ensures { IfOk result (λ shards. shards.items ≡ new_shards parts) }
+{
+    let mut shards = Vec::new(alloc);
+    for _ in 0..parts {
+        shards.push(Shard::new(alloc))?;
+    }
+    Ok(shards)
 }
 
 impl Site {
     ghost use Rattle.us_model.specs.Sites.{new_site};
 
-    /// A site with one partition and these spaces, of which nothing has come.
-    pub fn new(alloc: Global, site: u8, catalog: Catalog) -> Site
-        requires { site < 10 }
-        ensures { result ≡ record { site = new_site site catalog; taken = 0; stopped = false } }
+    /// The site of this number, from 1, in a store with these settings, of which nothing has come.
+    pub fn new(alloc: Global, settings: &Settings, number: u8) -> Result<Site, Memory>
+        requires number { number < 10 }
+        requires shape { IsShape settings.now.shape }
+        ensures { IfOk result (λ site. site ≡ record { site = new_site settings.now number; taken = 0; stopped = false }) }
     {
-        Site {
-            number: site,
-            settings: Settings {
-                shape: LONE,
-                catalog,
-            },
-            shard: Shard::new(alloc),
+        let shards = new_shards(alloc, settings.shape.parts)?;
+        Ok(Site {
+            number,
+            settings: settings.copy()?,
+            shards,
             taken: 0,
             stopped: false,
-        }
+        })
     }
 
     /// How many events the site has taken.
@@ -75,16 +83,11 @@ impl Site {
         self.stopped
     }
 
-    /// The open sessions with unanswered requests, in order, each with the first one's place.
-    pub fn waits(&self, alloc: Global) -> Result<Vec<Unanswered>, Memory>
-        ensures { IfOk result (λ waits. waits.items ≡ waits_of (self.now.site ∷ [])) }
+    /// The open sessions with unanswered requests, in order, each with the first one's place, are put behind those that are there.
+    pub fn put_waits(&self, waits: &mut Vec<Unanswered>) -> Result<(), Memory>
+        ensures { OnOk result (waits.new.items ≡ waits.old.items ++ waits_at self.now.site.number 1 self.now.site.shards) }
     {
-        let me = Actor {
-            site: self.number,
-            actor: 1,
-        };
-        let waits = self.shard.waits(alloc, &me)?;
-        Ok(waits)
+        put_waits_at(self.number, self.shards.as_slice(), waits)
     }
 
     /// Takes an event: the state after it, and what is given out, are the machine's.
@@ -97,7 +100,13 @@ impl Site {
     {
         self.stopped = true;
         let taken = after(self.taken)?;
-        let out = step_shard(alloc, self.number, &self.settings, &mut self.shard, event)?;
+        let out = step_shards(
+            alloc,
+            self.number,
+            &self.settings,
+            self.shards.as_mut_slice(),
+            event,
+        )?;
         self.taken = taken;
         self.stopped = false;
         Ok(out)
@@ -116,30 +125,72 @@ fn actor_in(event: &Event) -> u8
     }
 }
 
-/// The step of the site with this number and one shard. An event at another actor changes nothing.
-fn step_shard(
+/// The sessions that wait at a site's actors, in order, are put behind those that are there.
+fn put_waits_at(
+    site: u8,
+    shards: &[Shard],
+    waits: &mut Vec<Unanswered>,
+) -> Result<(), Memory>
+    requires { length shards.now ≤ 16 }
+    ensures { OnOk result (waits.new.items ≡ waits.old.items ++ waits_at site 1 shards.now) }
+{
+    for place in 0..shards.len() {
+        let me = Actor {
+            site,
+            actor: place as u8 + 1,
+        };
+        shards[place].put_waits(&me, waits)?;
+    }
+    Ok(())
+}
+
+/// Whether as many sessions are open at these actors as may be at a site.
+fn is_full(shards: &[Shard]) -> bool
+    ensures { result ≡ nat_le 4096 (open_at shards.now) }
+{
+    let mut open: usize = 0;
+    for shard in shards {
+        open = open.saturating_add(shard.open_sessions());
+        if open >= SESSIONS {
+            return true;
+        }
+    }
+    false
+}
+
+/// What a step gives out that changes nothing.
+fn nothing(alloc: Global) -> Outputs
+    ensures { result ≡ no_outputs }
+{
+    Outputs {
+        packets: Items::new(alloc),
+        client: Items::new(alloc),
+        notes: Items::new(alloc),
+    }
+}
+
+/// The step of the site with this number and these shards. An event at another actor changes nothing.
+fn step_shards(
     alloc: Global,
     number: u8,
     settings: &Settings,
-    shard: &mut Shard,
+    shards: &mut [Shard],
     event: Event,
 ) -> Result<Outputs, Memory>
-    requires { number < 10 }
-    ensures shard { OnOk result ((site_step (record { number = number; settings = settings.now; shards = shard.old ∷ [] }) event).site ≡ record { number = number; settings = settings.now; shards = shard.new ∷ [] }) }
-    ensures out { IfOk result (λ out. out ≡ (site_step (record { number = number; settings = settings.now; shards = shard.old ∷ [] }) event).out) }
+    requires number { number < 10 }
+    requires shape { IsShape settings.now.shape }
+    requires few { length shards.old ≤ 16 }
+    ensures shards { OnOk result ((site_step (record { number = number; settings = settings.now; shards = shards.old }) event).site ≡ record { number = number; settings = settings.now; shards = shards.new }) }
+    ensures out { IfOk result (λ out. out ≡ (site_step (record { number = number; settings = settings.now; shards = shards.old }) event).out) }
 {
     let actor = actor_in(&event);
-    if actor != 1 {
-        return Ok(Outputs {
-            packets: Items::new(alloc),
-            client: Items::new(alloc),
-            notes: Items::new(alloc),
-        });
+    if actor == 0 || usize::from(actor) > shards.len() {
+        return Ok(nothing(alloc));
     }
     let me = Actor {
         site: number,
         actor,
     };
-    let full = shard.open_sessions() >= SESSIONS;
-    shard.step(alloc, &me, settings, full, event)
+    let full = is_full(shards);
+    shards[usize::from(actor) - 1].step(alloc, &me, settings, full, event)
 }

@@ -1,5 +1,6 @@
 //! A client's bytes come to a session.
 ghost use Rattle.std.specs.Prelude.{◌≡◌, not, nat_lt, IfOk, OnOk, Some};
+ghost use Rattle.us_base.specs.Shape.{IsShape};
 ghost use Rattle.us_wire.specs.Frames.{frames_of};
 ghost use Rattle.us_model.specs.Sessions.{closes_in, close, malformed, is_built, unanswered, joins, framed, framed_in, take_frames, bytes};
 
@@ -91,6 +92,7 @@ fn join_request(
     session: &mut Session,
     request: Request,
 ) -> Result<(), Memory>
+    requires { IsShape desk.old.shape }
     ensures desk { OnOk result (desk.new ≡ (joins catalog.now desk.old session.old request).desk) }
     ensures session { OnOk result (session.new ≡ (joins catalog.now desk.old session.old request).session) }
 {
@@ -109,6 +111,7 @@ fn take_request(
     session: &mut Session,
     request: Request,
 ) -> Result<(), Memory>
+    requires { IsShape desk.old.shape }
     ensures desk { OnOk result (desk.new ≡ (framed_in catalog.now desk.old session.old (Some request)).desk) }
     ensures session { OnOk result (session.new ≡ (framed_in catalog.now desk.old session.old (Some request)).session) }
 {
@@ -130,6 +133,7 @@ fn take_frame(
     session: &mut Session,
     frame: &[u8],
 ) -> Result<(), Memory>
+    requires { IsShape desk.old.shape }
     ensures desk { OnOk result (desk.new ≡ (framed catalog.now desk.old session.old frame.now).desk) }
     ensures session { OnOk result (session.new ≡ (framed catalog.now desk.old session.old frame.now).session) }
 {
@@ -174,6 +178,7 @@ fn take_all(
     frames: &[Bytes],
     bad: bool,
 ) -> Result<(), Memory>
+    requires { IsShape desk.old.shape }
     ensures desk { OnOk result (desk.new ≡ (take_frames catalog.now desk.old session.old frames.now bad).desk) }
     ensures session { OnOk result (session.new ≡ (take_frames catalog.now desk.old session.old frames.now bad).session) }
 {
@@ -200,6 +205,7 @@ pub fn take_bytes(
     number: u64,
     piece: &[u8],
 ) -> Result<(), Memory>
+    requires { IsShape desk.old.shape }
     ensures desk { OnOk result (desk.new ≡ (bytes catalog.now number piece.now desk.old session.old).desk) }
     ensures session { OnOk result (session.new ≡ (bytes catalog.now number piece.now desk.old session.old).session) }
 {

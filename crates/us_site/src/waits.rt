@@ -1,12 +1,12 @@
 //! The requests that wait.
-ghost use Rattle.std.specs.Prelude.{◌≡◌, IfOk};
+ghost use Rattle.std.specs.Prelude.{◌≡◌, ◌++◌, OnOk};
 ghost use Rattle.us_model.specs.Worlds.{first_unanswered, waits_in};
 
-use std::alloc::Global;
 use std::marker::Model;
 use us_exec::SessionName;
 use us_kind::Memory;
 use us_model::{Session, Waiting};
+use us_peer_wire::Actor;
 
 /// An open session with unanswered requests, and the count of its frames up to the first of them.
 #[derive(Clone, Copy)]
@@ -39,27 +39,25 @@ fn first_unanswered(session: &Session) -> Option<u64>
     }
 }
 
-/// The sessions of a coordinator that wait, in order.
-pub fn waits_in(
-    alloc: Global,
-    site: u8,
-    coord: u8,
+/// The sessions of a coordinator that wait, in order, are put behind those that are there.
+pub fn put_waits_in(
+    me: &Actor,
     sessions: &[Session],
-) -> Result<Vec<Unanswered>, Memory>
-    ensures { IfOk result (λ waits. waits.items ≡ waits_in site coord sessions.now) }
+    waits: &mut Vec<Unanswered>,
+) -> Result<(), Memory>
+    ensures { OnOk result (waits.new.items ≡ waits.old.items ++ waits_in me.now.site me.now.actor sessions.now) }
 {
-    let mut waits = Vec::new(alloc);
     for session in sessions {
         if let Some(at) = first_unanswered(session) {
             if !session.closed {
                 let session = SessionName {
-                    site,
-                    coord,
+                    site: me.site,
+                    coord: me.actor,
                     number: session.number,
                 };
                 waits.push(Unanswered { session, at })?;
             }
         }
     }
-    Ok(waits)
+    Ok(())
 }

@@ -13,7 +13,7 @@ use Rattle.us_world.specs.declared.fault.WorldFault.TheVariants as fault
 use Rattle.us_world.specs.Limits.{Delivers, delivery_of}
 use Rattle.us_world.specs.Kept.{Kept, StandsFor, packet_of, is_due_at, NoneDue, HasSkipped, LimitSays, passed_by, marked, after_delivery}
 use Rattle.us_world.specs.Lines.{GoesBy, PassesBy, StoppedBy, IsDelivery}
-use Rattle.us_world.proofs.Standing.{nth-place, events-at, stands_delivery, stands_skipped}
+use Rattle.us_world.proofs.Standing.{nth-place, nth-outside, events-at, stands_delivery, stands_skipped}
 use Rattle.us_world.proofs.Due.{least_place, no_least}
 use Rattle.us_world.proofs.Happenings.{run-append, limit_after, limit_one, OneEvent}
 
@@ -28,19 +28,6 @@ one_delivery k place number s at is = record {
   stands = λ w h. stands_delivery k w place number s h at is;
   counts = events-delivery place s k;
 }
-
-slice-outside : {X : Type 0} (xs : List X) (i : ℕ) → length xs ≤ i → slice_get xs i ≡ None
-slice-outside [] i l = refl
-slice-outside (x ∷ xs) zero l = absurd (omega arith)
-slice-outside (x ∷ xs) (suc i) l = slice-outside xs i (omega arith)
-
-nth-outside : {X : Type 0} (xs : List X) (n : ℕ) → (n ≡ 0) ⊎ (length xs < n) → nth xs n ≡ None
-nth-outside xs zero out = refl
-nth-outside xs (suc m) (inl e) = absurd (omega arith)
-nth-outside xs (suc m) (inr l) =
-    let t : nat_lt 0 (suc m) ≡ true = grind (arith, nat_tests) in
-    let e : suc m - 1 ≡ m = omega arith in
-    cond-true _ _ _ t ∙ ap (λ i. slice_get xs i) e ∙ slice-outside xs m (omega arith)
 
 -- nothing comes where fewer were sent
 pub no_delivery : (k : Kept) (number : ℕ) → (number ≡ 0) ⊎ (length k.sent < number) → GoesBy (IsDelivery number) k k

@@ -1,25 +1,27 @@
 -- The lines of a schedule in turn, and the report at their end.
-use Rattle.std.proofs.Common.{◌≡◌, ◌∙◌, ℕ, ◌+◌, List, [], ◌∷◌, ◌++◌, length, refl, sym, ap, subst, map, inl, inr}
+use Rattle.std.proofs.Common.{◌≡◌, ◌∙◌, ℕ, ◌+◌, List, [], ◌∷◌, ◌++◌, length, append-nil, append_assoc, length-append, None, refl, sym, ap, subst, arith, map}
 use Rattle.us_schedule.specs.declared.line.Line.TheVariants as line
 use Rattle.us_report.specs.declared.report.Report.{Report}
-use Rattle.us_exec.specs.Conflict.{Declared}
 use Rattle.us_exec.specs.Consistency.{IsSound}
 use Rattle.us_model.specs.declared.event.Event.TheVariants as event
-use Rattle.us_model.specs.State.{Spaces}
+use Rattle.us_base.specs.Shape.{IsShape}
+use Rattle.us_model.specs.declared.settings.Settings.{Settings}
 use Rattle.us_model.specs.Worlds.{World, Happening, Opens, Sends, Closes, happens, run, start, waits_of}
 use Rattle.us_model.specs.Executions.{history_of, execution_of}
 use Rattle.us_order.specs.Pasts.{direct_execution}
 use Rattle.us_order.specs.Ascending.{Ascends}
+use Rattle.us_order.specs.Premise.{HasOnePartition}
 use Rattle.us_order.specs.Laws.{HistoriesAscend, ExecutionsAreDirect, ExecutionsAreWellFormed, EveryRunIsPor}
 use Rattle.us_world.specs.declared.fault.WorldFault.{WorldFault}
 use Rattle.us_world.specs.declared.fault.WorldFault.TheVariants as fault
 use Rattle.us_world.specs.declared.fault.Numbered.{Numbered}
 use Rattle.us_world.specs.Direct.{reported}
 use Rattle.us_world.specs.Kept.{Kept, StandsFor, after_at}
-use Rattle.us_world.specs.Limits.{Performs, Begins, Outcome, Reaches, Passes, Leads}
-use Rattle.us_world.specs.Lines.{IsBuilt, AllBuilt, PassesBy, IsPerformed, IsStopped, PassAt, HasReached, LeadOn, waiting, report_of, report_of_kept, IsReportOf, IsLimitOf, fault_at}
+use Rattle.us_world.specs.Limits.{Performs, Begins, limit_of, AreEventsOf, IsPassedAt}
+use Rattle.us_world.specs.Lines.{IsBuilt, AllBuilt, PassesBy, IsPerformed, IsStopped, HasReached, HaveWorld, waiting, report_of, report_of_kept, IsReportOf, IsLimitOf, fault_at}
 use Rattle.us_world.proofs.Standing.{stands_at, events-at}
-use Rattle.us_world.proofs.Happenings.{run-append, OneEvent}
+use Rattle.us_world.proofs.Happenings.{run-append, limit_after, OneEvent}
+use Rattle.us_world.proofs.Leads.{events_more}
 
 -- ONE LINE
 pub one_opening : (k : Kept) (site coord : ℕ) → OneEvent (Performs (line.Open site coord)) k (after_at k site (event.Open coord))
@@ -50,47 +52,69 @@ one_closing k site coord session = record {
 }
 
 -- LINES IN TURN
--- the lines that are left lead from a world that the kept stands for to what all of them lead to
-pub record HasPerformed (spaces : Spaces) (all left : List Numbered) (k : Kept) : Type 0 where
-  pub world : World
-  pub stands : StandsFor k world
-  pub leads : (outcome : Outcome) → Leads left k.events world outcome → Leads all 0 (start spaces) outcome
+-- the lines but for those that are left are performed: the kept stands for the run over their events
+pub record HasPerformed (settings : Settings) (all left : List Numbered) (k : Kept) : Type 0 where
+  pub before : List Numbered
+  pub lines : all ≡ before ++ left
+  pub events : List Happening
+  pub are : AreEventsOf before (start settings) events
+  pub within : limit_of 0 events (start settings) ≡ None
+  pub counts : k.events ≡ length events
+  pub stands : StandsFor k (run events (start settings))
 
-pub performed_none : (spaces : Spaces) (all : List Numbered) (k : Kept) → StandsFor k (start spaces) → k.events ≡ 0 → HasPerformed spaces all all k
-performed_none spaces all k h none = record {
-  world = start spaces;
-  stands = h;
-  leads = λ o l. subst (λ n. Leads all n (start spaces) o) none l;
-}
+pub performed_none : (settings : Settings) (all : List Numbered) (k : Kept) → StandsFor k (start settings) → k.events ≡ 0 → HasPerformed settings all all k
+performed_none settings all k h none = record { before = []; lines = refl; events = []; are = refl; within = refl; counts = none; stands = h }
 
-pub performed_more : (spaces : Spaces) (all left rest : List Numbered) (l : Numbered) (old new : Kept) → HasPerformed spaces all left old → left ≡ l ∷ rest
-    → IsPerformed l.line old new → HasPerformed spaces all rest new
-performed_more spaces all left rest l old new so is step =
-    let w = so.world in
-    let next = step w so.stands in
+pub performed_more : (settings : Settings) (all left rest : List Numbered) (l : Numbered) (old new : Kept) → HasPerformed settings all left old → left ≡ l ∷ rest
+    → IsPerformed l.line old new → HasPerformed settings all rest new
+performed_more settings all left rest l old new so is step =
+    let next = step (run so.events (start settings)) so.stands in
+    let own = next.0 in
+    let counts = so.counts in
+    let counted : old.events ≡ 0 + length so.events = omega arith in
     record {
-      world = run next.0 w;
-      stands = next.3;
-      leads = λ o leads.
-          so.leads o (subst (λ ls. Leads ls old.events w o) (sym is) (inl (next.0, next.1, next.2, subst (λ n. Leads rest n (run next.0 w) o) next.4 leads)));
+      before = so.before ++ l ∷ [];
+      lines = so.lines ∙ ap (λ ls. so.before ++ ls) is ∙ sym (append_assoc so.before (l ∷ []) rest);
+      events = so.events ++ own;
+      are = events_more so.before l (start settings) so.events own so.are next.1;
+      within = limit_after 0 old.events so.events own (start settings) None so.within counted next.2;
+      counts = next.4 ∙ ap (λ n. n + length own) so.counts ∙ sym (length-append so.events own);
+      stands = subst (λ (v : World). StandsFor new v) (sym (run-append so.events own (start settings))) next.3;
     }
 
-passed-at : (spaces : Spaces) (all left rest : List Numbered) (l : Numbered) (old : Kept) (which : WorldFault) → HasPerformed spaces all left old → left ≡ l ∷ rest
-    → PassesBy (Begins l.line) old which → PassAt spaces all l.number which
-passed-at spaces all left rest l old which so is step =
-    let w = so.world in
-    let past = step w so.stands in
-    so.leads (Passes l.number which) (subst (λ ls. Leads ls old.events w (Passes l.number which)) (sym is) (inr (which, (past.0, past.1, past.2), refl)))
+passed-at : (settings : Settings) (all left rest : List Numbered) (l : Numbered) (old : Kept) (which : WorldFault) → HasPerformed settings all left old → left ≡ l ∷ rest
+    → PassesBy (Begins l.line) old which → IsPassedAt settings all l.number which
+passed-at settings all left rest l old which so is step =
+    let past = step (run so.events (start settings)) so.stands in
+    record {
+      before = so.before;
+      line = l;
+      after = rest;
+      split = so.lines ∙ ap (λ ls. so.before ++ ls) is;
+      at = refl;
+      events = so.events;
+      are = so.are;
+      within = so.within;
+      own = past.0;
+      first = past.1;
+      passes = ap (λ n. limit_of n past.0 (run so.events (start settings))) (sym so.counts) ∙ past.2;
+    }
 
-pub performed_stops : (spaces : Spaces) (e : WorldFault) (all left rest : List Numbered) (l : Numbered) (old : Kept) → HasPerformed spaces all left old → left ≡ l ∷ rest
-    → IsStopped l.line old e → IsLimitOf spaces all (fault_at l.number e)
-performed_stops spaces fault.Memory all left rest l old so is step = tt
-performed_stops spaces fault.Events all left rest l old so is step = passed-at spaces all left rest l old fault.Events so is step
-performed_stops spaces fault.Sessions all left rest l old so is step = passed-at spaces all left rest l old fault.Sessions so is step
-performed_stops spaces fault.Transactions all left rest l old so is step = passed-at spaces all left rest l old fault.Transactions so is step
+pub performed_stops : (settings : Settings) (e : WorldFault) (all left rest : List Numbered) (l : Numbered) (old : Kept) → HasPerformed settings all left old → left ≡ l ∷ rest
+    → IsStopped l.line old e → IsLimitOf settings all (fault_at l.number e)
+performed_stops settings fault.Memory all left rest l old so is step = tt
+performed_stops settings fault.Events all left rest l old so is step = passed-at settings all left rest l old fault.Events so is step
+performed_stops settings fault.Sessions all left rest l old so is step = passed-at settings all left rest l old fault.Sessions so is step
+performed_stops settings fault.Transactions all left rest l old so is step = passed-at settings all left rest l old fault.Transactions so is step
 
-pub performed_all : (spaces : Spaces) (all : List Numbered) (k : Kept) → HasPerformed spaces all [] k → HasReached spaces all k
-performed_all spaces all k so = record { world = so.world; stands = so.stands; leads = so.leads (Reaches so.world) refl }
+pub performed_all : (settings : Settings) (all : List Numbered) (k : Kept) → HasPerformed settings all [] k → HasReached settings all k
+performed_all settings all k so =
+    let same : so.before ≡ all = sym (so.lines ∙ append-nil so.before) in
+    record {
+      world = run so.events (start settings);
+      stands = so.stands;
+      is = record { events = so.events; are = subst (λ (ls : List Numbered). AreEventsOf ls (start settings) so.events) same so.are; within = so.within; run = refl };
+    }
 
 pub built_head : (left rest : List Numbered) (l : Numbered) → AllBuilt left → left ≡ l ∷ rest → IsBuilt l.line
 built_head left rest l b is = (subst AllBuilt is b).0
@@ -99,21 +123,8 @@ pub built_rest : (left rest : List Numbered) (l : Numbered) → AllBuilt left �
 built_rest left rest l b is = (subst AllBuilt is b).1
 
 -- THE REPORT
--- a world that lines lead to is that of a run
-abbrev pub IsRun : World → World → Type 0
-IsRun first w = (hs : List Happening) × (w ≡ run hs first)
-
-led-by-run : (lines : List Numbered) (n : ℕ) (first w : World) → Leads lines n first (Reaches w) → IsRun first w
-led-by-run [] n first w leads =
-    let same : w ≡ first = cc in
-    ([], same)
-led-by-run (l ∷ ls) n first w (inl on) =
-    let rest = led-by-run ls (n + length on.0) (run on.0 first) w on.3 in
-    (on.0 ++ rest.0, rest.1 ∙ sym (run-append on.0 rest.0 first))
-led-by-run (l ∷ ls) n first w (inr past) = let bad : Reaches w ≡ Passes l.number past.0 = past.2 in absurd (cc)
-
-pub lead_on : (spaces : Spaces) (lines : List Numbered) (k : Kept) → HasReached spaces lines k → LeadOn spaces lines
-lead_on spaces lines k so = record { world = so.world; leads = so.leads }
+pub have_world : (settings : Settings) (lines : List Numbered) (k : Kept) → HasReached settings lines k → HaveWorld settings lines
+have_world settings lines k so = record { world = so.world; is = so.is }
 
 report-same : (k : Kept) (w : World) → StandsFor k w → execution_of w.notes ≡ direct_execution (history_of w.notes) → report_of_kept k ≡ report_of w
 report-same k w h direct =
@@ -122,23 +133,29 @@ report-same k w h direct =
     let waits = ap (λ sites. map waiting (waits_of sites)) (sym h.sites) in
     λ i. record { execution = execution i; refused = refused i; waiting = waits i }
 
-pub report_is : (spaces : Spaces) (lines : List Numbered) (k : Kept) (report : Report) → HasReached spaces lines k → ExecutionsAreDirect → report ≡ report_of_kept k → IsReportOf spaces lines report
-report_is spaces lines k report so direct is =
-    let by = led-by-run lines 0 (start spaces) so.world so.leads in
+pub report_is : (settings : Settings) → HasOnePartition settings → (lines : List Numbered) (k : Kept) (report : Report) → HasReached settings lines k → ExecutionsAreDirect → report ≡ report_of_kept k
+    → IsReportOf settings lines report
+report_is settings one lines k report so direct is =
     let same : execution_of so.world.notes ≡ direct_execution (history_of so.world.notes) =
-    subst (λ (w : World). execution_of w.notes ≡ direct_execution (history_of w.notes)) (sym by.1) (direct spaces by.0)
+    subst (λ (w : World). execution_of w.notes ≡ direct_execution (history_of w.notes)) (sym so.is.run) (direct settings one so.is.events)
     in
-    record { world = so.world; leads = so.leads; is = is ∙ report-same k so.world so.stands same }
+    record { world = so.world; reached = so.is; is = is ∙ report-same k so.world so.stands same }
 
-pub report_sound : (spaces : Spaces) (lines : List Numbered) (report : Report) → EveryRunIsPor → ExecutionsAreWellFormed → IsReportOf spaces lines report
-    → (declared : Declared) → IsSound declared report.execution
-report_sound spaces lines report por formed is declared =
-    let by = led-by-run lines 0 (start spaces) is.world is.leads in
-    let there : IsSound declared (execution_of (run by.0 (start spaces)).notes) = record { formed = formed spaces by.0; consistent = por spaces by.0 declared } in
-    subst (λ (s : Report). IsSound declared s.execution) (sym is.is) (subst (λ (w : World). IsSound declared (execution_of w.notes)) (sym by.1) there)
+pub report_sound : (settings : Settings) → HasOnePartition settings → (lines : List Numbered) (report : Report) → EveryRunIsPor → ExecutionsAreWellFormed → IsReportOf settings lines report
+    → IsSound settings.conflicts report.execution
+report_sound settings one lines report por formed is =
+    let es = is.reached.events in
+    let there : IsSound settings.conflicts (execution_of (run es (start settings)).notes) = record { formed = formed settings one es; consistent = por settings one es } in
+    subst (λ (s : Report). IsSound settings.conflicts s.execution) (sym is.is) (subst (λ (w : World). IsSound settings.conflicts (execution_of w.notes)) (sym is.reached.run) there)
 
-pub history_ascends : (spaces : Spaces) (lines : List Numbered) (k : Kept) → HasReached spaces lines k → HistoriesAscend → Ascends k.history
-history_ascends spaces lines k so ascend =
-    let by = led-by-run lines 0 (start spaces) so.world so.leads in
-    let there : Ascends (history_of so.world.notes) = subst (λ (w : World). Ascends (history_of w.notes)) (sym by.1) (ascend spaces by.0) in
+pub history_ascends : (settings : Settings) → HasOnePartition settings → (lines : List Numbered) (k : Kept) → HasReached settings lines k → HistoriesAscend → Ascends k.history
+history_ascends settings one lines k so ascend =
+    let there : Ascends (history_of so.world.notes) = subst (λ (w : World). Ascends (history_of w.notes)) (sym so.is.run) (ascend settings one so.is.events) in
     subst Ascends so.stands.history there
+
+-- such a store has a shape
+pub one_shape : (settings : Settings) → HasOnePartition settings → IsShape settings.shape
+one_shape settings one =
+    let f = one.site in
+    let parts = one.partition in
+    record { few_sites = omega arith; some_partition = omega arith; few_partitions = omega arith }

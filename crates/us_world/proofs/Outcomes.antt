@@ -1,10 +1,13 @@
 -- Lines lead to one outcome.
-use Rattle.std.proofs.Common.{◌≡◌, ◌∙◌, ℕ, ◌+◌, List, [], ◌∷◌, length, Option, Some, None, refl, sym, ap, subst, inl, inr, ◌⊎◌}
+use Rattle.std.proofs.Common.{◌≡◌, ◌∙◌, ℕ, ◌+◌, List, [], ◌∷◌, length, Option, Some, None, refl, sym, ap, subst, inl, inr, ◌⊎◌, arith}
 use Rattle.us_schedule.specs.declared.line.Line.{Line}
 use Rattle.us_schedule.specs.declared.line.Line.TheVariants as line
-use Rattle.us_model.specs.Worlds.{World, Happening, Comes, Flushes, least_undelivered, happens, run}
+use Rattle.us_model.specs.Worlds.{World, Happening, Comes, Flushes, least_undelivered, happens, run, start}
 use Rattle.us_world.specs.declared.fault.WorldFault.{WorldFault}
-use Rattle.us_world.specs.Limits.{passed, or_else, limit_of, Performs, Begins, Delivers, Passes, Leads, OutcomesAreOne}
+use Rattle.us_model.specs.declared.settings.Settings.{Settings}
+use Rattle.us_world.specs.declared.fault.Numbered.{Numbered}
+use Rattle.us_world.specs.Limits.{passed, or_else, limit_of, Performs, Begins, Delivers, IsWorldOf, IsPassedAt, OutcomesAreOne}
+use Rattle.us_world.proofs.Leads.{Outcome, Reaches, Passes, Leads, leads_reach, leads_past}
 
 -- the least packet is one
 same-least : (o : Option ℕ) (j k : ℕ) (g h : Happening) → o ≡ Some j → o ≡ Some k → g ≡ Comes j → h ≡ Comes k → g ≡ h
@@ -107,7 +110,7 @@ front-within (line.Settle clock rounds) n w hs gs which d p f = absurd d
 some-none : {A X : Type 0} (o : Option X) (x : X) → o ≡ None → o ≡ Some x → A
 some-none o x a b = absurd (cc)
 
-pub outcomes-one : OutcomesAreOne
+outcomes-one : (lines : List Numbered) (events : ℕ) (w : World) (a b : Outcome) → Leads lines events w a → Leads lines events w b → a ≡ b
 outcomes-one [] n w a b x y = x ∙ sym y
 outcomes-one (l ∷ ls) n w a b (inl x) (inl y) =
     let same : y.0 ≡ x.0 = performs-one l.line w y.0 x.0 y.1 x.1 in
@@ -120,3 +123,28 @@ outcomes-one (l ∷ ls) n w a b (inr x) (inl y) =
 outcomes-one (l ∷ ls) n w a b (inr x) (inr y) =
     let same : x.0 ≡ y.0 = begins-one l.line n w x.1.0 y.1.0 x.0 y.0 x.1.1 y.1.1 x.1.2 y.1.2 in
     x.2 ∙ ap (λ which. Passes l.number which) same ∙ sym y.2
+
+reached : (settings : Settings) (lines : List Numbered) (w : World) → IsWorldOf settings lines w → Leads lines 0 (start settings) (Reaches w)
+reached settings lines w h = subst (λ v. Leads lines 0 (start settings) (Reaches v)) (sym h.run) (leads_reach lines 0 (start settings) h.events h.are h.within)
+
+passed_by : (settings : Settings) (lines : List Numbered) (n : ℕ) (which : WorldFault) → IsPassedAt settings lines n which → Leads lines 0 (start settings) (Passes n which)
+passed_by settings lines n which h =
+    let zero : 0 + length h.events ≡ length h.events = omega arith in
+    let there = leads_past h.before h.line h.after 0 (start settings) h.events h.own which h.are h.within h.first (ap (λ n. limit_of n h.own (run h.events (start settings))) zero ∙ h.passes) in
+    subst (λ m. Leads lines 0 (start settings) (Passes m which)) h.at (subst (λ (ls : List Numbered). Leads ls 0 (start settings) (Passes h.line.number which)) (sym h.split) there)
+
+same_world : (w v : World) → Reaches w ≡ Reaches v → w ≡ v
+same_world w v e = cc
+
+same_limit : (n m : ℕ) (a b : WorldFault) → Passes n a ≡ Passes m b → (n ≡ m) × (a ≡ b)
+same_limit n m a b e = (cc, cc)
+
+not_both : (w : World) (n : ℕ) (a : WorldFault) → Reaches w ≡ Passes n a → ⊥
+not_both w n a e = absurd (cc)
+
+pub outcomes_one : OutcomesAreOne
+outcomes_one = record {
+  worlds = λ settings lines w v x y. same_world w v (outcomes-one lines 0 (start settings) (Reaches w) (Reaches v) (reached settings lines w x) (reached settings lines v y));
+  limits = λ settings lines n m a b x y. same_limit n m a b (outcomes-one lines 0 (start settings) (Passes n a) (Passes m b) (passed_by settings lines n a x) (passed_by settings lines m b y));
+  apart = λ settings lines w n a x y. not_both w n a (outcomes-one lines 0 (start settings) (Reaches w) (Passes n a) (reached settings lines w x) (passed_by settings lines n a y));
+}

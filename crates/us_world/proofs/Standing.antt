@@ -1,7 +1,7 @@
 -- What is kept stands for the world, and goes along with it.
-use Rattle.std.proofs.Common.{◌≡◌, ◌∙◌, ℕ, zero, suc, ◌+◌, ◌-◌, ◌≤◌, ◌<◌, List, [], ◌∷◌, ◌++◌, length, map, Bool, true, false, cond, Some, None, refl, sym, ap, subst, arith, nat_lt, append_assoc, get_or}
+use Rattle.std.proofs.Common.{◌≡◌, ◌∙◌, ℕ, zero, suc, ◌+◌, ◌-◌, ◌≤◌, ◌<◌, List, [], ◌∷◌, ◌++◌, length, map, Bool, true, false, cond, Option, Some, None, ◌⊎◌, inl, inr, refl, sym, ap, subst, arith, nat_lt, append_assoc, get_or}
 use Rattle.std.proofs.lemmas.Option.{slice_get-get_or}
-use Rattle.std.specs.Prelude.{◌||◌, ◌==◌, Result, Err, OnOk}
+use Rattle.std.specs.Prelude.{◌||◌, ◌==◌, Result, Ok, Err, OnOk, IfOk}
 use Rattle.us_world.specs.declared.fault.WorldFault.TheVariants as fault
 use Rattle.us_world.specs.declared.fault.WorldFault.{WorldFault}
 use Rattle.std.specs.List.{slice_get, slice_set}
@@ -13,13 +13,15 @@ use Rattle.us_peer_wire.specs.declared.message.Packet.{Packet}
 use Rattle.us_model.specs.declared.event.Event.{Event}
 use Rattle.us_model.specs.declared.event.Event.TheVariants as event
 use Rattle.us_model.specs.declared.event.Note.{Note}
+use Rattle.us_model.specs.declared.event.Outputs.{Outputs}
+use Rattle.us_site.specs.Served.{Served}
 use Rattle.us_model.specs.State.{Site}
 use Rattle.us_model.specs.Sites.{Stepped, site_step}
 use Rattle.us_model.specs.Worlds.{World, Comes, nth, stepped, at_one, at_site, delivered, comes, happens, is_delivered}
 use Rattle.us_model.specs.Executions.{History, noted, noted_all, no_history}
 use Rattle.us_world.specs.declared.world.Sent.{Sent}
 use Rattle.us_world.specs.Limits.{is_opening, is_beginning, how_many, opened_in, begun_in}
-use Rattle.us_world.specs.Kept.{Kept, StandsFor, packet_of, fresh, unmarked, is_marked_at, after_step, after_event, after_nothing, after_at, marked, after_delivery, HasSkipped, IsDelivered, HasCome, LimitSays, passed_by}
+use Rattle.us_world.specs.Kept.{Kept, StandsFor, site_of, HasStepped, packet_of, fresh, unmarked, is_marked_at, after_step, after_nothing, after_one, after_at, marked, after_delivery, HasSkipped, IsDelivered, HasCome, LimitSays, passed_by}
 
 -- PACKETS AND NOTES IN TURN
 -- one more is on its way
@@ -81,12 +83,25 @@ packet-get (u ∷ us) zero s e =
     ap (λ (v : Sent). Some v.packet) is
 packet-get (u ∷ us) (suc place) s e = packet-get us place s e
 
-nth-get : (ps : List Packet) (n : ℕ) (p : Packet) → 1 ≤ n → ((m : ℕ) → n ≡ 1 + m → slice_get ps m ≡ Some p) → nth ps n ≡ Some p
+nth-get : {X : Type 0} (ps : List X) (n : ℕ) (p : X) → 1 ≤ n → ((m : ℕ) → n ≡ 1 + m → slice_get ps m ≡ Some p) → nth ps n ≡ Some p
 nth-get ps zero p l h = absurd (omega arith)
 nth-get ps (suc m) p l h =
     let t : nat_lt 0 (suc m) ≡ true = grind (arith, nat_tests) in
     let e : suc m - 1 ≡ m = omega arith in
     cond-true _ _ _ t ∙ ap (λ i. slice_get ps i) e ∙ h m (omega arith)
+
+slice-outside : {X : Type 0} (xs : List X) (i : ℕ) → length xs ≤ i → slice_get xs i ≡ None
+slice-outside [] i l = refl
+slice-outside (x ∷ xs) zero l = absurd (omega arith)
+slice-outside (x ∷ xs) (suc i) l = slice-outside xs i (omega arith)
+
+pub nth-outside : {X : Type 0} (xs : List X) (n : ℕ) → (n ≡ 0) ⊎ (length xs < n) → nth xs n ≡ None
+nth-outside xs zero out = refl
+nth-outside xs (suc m) (inl e) = absurd (omega arith)
+nth-outside xs (suc m) (inr l) =
+    let t : nat_lt 0 (suc m) ≡ true = grind (arith, nat_tests) in
+    let e : suc m - 1 ≡ m = omega arith in
+    cond-true _ _ _ t ∙ ap (λ i. slice_get xs i) e ∙ slice-outside xs m (omega arith)
 
 -- the packet of the number is that of the place
 pub nth-place : (k : Kept) (w : World) (place number : ℕ) (s : Sent) → StandsFor k w → slice_get k.sent place ≡ Some s → number ≡ place + 1
@@ -98,62 +113,56 @@ nth-place k w place number s h at is =
     ap (λ i. slice_get (map packet_of k.sent) i) same ∙ packet-get k.sent place s at)
 
 -- AN EVENT AT A SITE
-stands_event : (k : Kept) (w : World) (e : Event) → StandsFor k w → StandsFor (after_event k e) (at_site w 1 e)
-stands_event k w e h =
-    let r : Stepped = site_step k.site e in
-    let at : at_site w 1 e ≡ stepped w 1 r = ap (λ sites. at_one w 1 e (nth sites 1)) h.sites in
-    subst (λ v. StandsFor (after_step k r) v) (sym at) (record {
-      sites = ap (λ sites. slice_set sites 0 r.site) h.sites;
-      packets = ap (λ ps. ps ++ r.out.packets) h.packets ∙ sym (packets-append k.sent r.out.packets);
-      marked = λ i. h.marked i ∙ sym (marked-append k.sent r.out.packets i);
-      before = λ i low high. marked-append k.sent r.out.packets i ∙ h.before i low high;
-      history = noted-append no_history w.notes r.out.notes ∙ ap (λ t. noted_all t r.out.notes) h.history;
-      sessions = how_many-append is_opening w.notes r.out.notes ∙ ap (λ n. n + opened_in r.out.notes) h.sessions;
-      transactions = how_many-append is_beginning w.notes r.out.notes ∙ ap (λ n. n + begun_in r.out.notes) h.transactions;
-    })
-  where
-    packets-append : (sent : List Sent) (ps : List Packet) → map packet_of (sent ++ unmarked ps) ≡ map packet_of sent ++ ps
-    packets-append [] [] = refl
-    packets-append [] (p ∷ ps) = ap (λ qs. p ∷ qs) (packets-append [] ps)
-    packets-append (s ∷ ss) ps = ap (λ qs. packet_of s ∷ qs) (packets-append ss ps)
+packets-append : (sent : List Sent) (ps : List Packet) → map packet_of (sent ++ unmarked ps) ≡ map packet_of sent ++ ps
+packets-append [] [] = refl
+packets-append [] (p ∷ ps) = ap (λ qs. p ∷ qs) (packets-append [] ps)
+packets-append (s ∷ ss) ps = ap (λ qs. packet_of s ∷ qs) (packets-append ss ps)
+
+stands_step : (k : Kept) (w : World) (s : ℕ) (r : Stepped) → StandsFor k w → StandsFor (after_step s k r) (stepped w s r)
+stands_step k w s r h = record {
+  sites = ap (λ sites. slice_set sites (s - 1) r.site) h.sites;
+  packets = ap (λ ps. ps ++ r.out.packets) h.packets ∙ sym (packets-append k.sent r.out.packets);
+  marked = λ i. h.marked i ∙ sym (marked-append k.sent r.out.packets i);
+  before = λ i low high. marked-append k.sent r.out.packets i ∙ h.before i low high;
+  history = noted-append no_history w.notes r.out.notes ∙ ap (λ t. noted_all t r.out.notes) h.history;
+  sessions = how_many-append is_opening w.notes r.out.notes ∙ ap (λ n. n + opened_in r.out.notes) h.sessions;
+  transactions = how_many-append is_beginning w.notes r.out.notes ∙ ap (λ n. n + begun_in r.out.notes) h.transactions;
+}
 
 -- where no site is
-nth-none : (site : Site) (s : ℕ) → (s == 1) ≡ false → nth (site ∷ []) s ≡ None
-nth-none site zero e = refl
-nth-none site (suc zero) e = absurd (cc)
-nth-none site (suc (suc s)) e =
-    let t : nat_lt 0 (suc (suc s)) ≡ true = grind (arith, nat_tests) in
-    let m : suc (suc s) - 1 ≡ suc s = omega arith in
-    cond-true _ _ _ t ∙ ap (λ i. slice_get (site ∷ []) i) m
+stands_nothing : (k : Kept) (w : World) → StandsFor k w → StandsFor (after_nothing k) w
+stands_nothing k w h = record {
+  sites = h.sites;
+  packets = h.packets;
+  marked = h.marked;
+  before = h.before;
+  history = h.history;
+  sessions = h.sessions;
+  transactions = h.transactions;
+}
 
-stands_nothing : (k : Kept) (w : World) (s : ℕ) (e : Event) → StandsFor k w → (s == 1) ≡ false → StandsFor (after_nothing k) (at_site w s e)
-stands_nothing k w s e h other =
-    let at : at_site w s e ≡ w = ap (λ sites. at_one w s e (nth sites s)) h.sites ∙ ap (at_one w s e) (nth-none k.site s other) in
-    subst (λ v. StandsFor (after_nothing k) v) (sym at) (record {
-      sites = h.sites;
-      packets = h.packets;
-      marked = h.marked;
-      before = h.before;
-      history = h.history;
-      sessions = h.sessions;
-      transactions = h.transactions;
-    })
+stands_one : (k : Kept) (w : World) (s : ℕ) (e : Event) (o : Option Site) → StandsFor k w → StandsFor (after_one k s e o) (at_one w s e o)
+stands_one k w s e None h = stands_nothing k w h
+stands_one k w s e (Some site) h = stands_step k w s (site_step site e) h
 
 pub stands_at : (k : Kept) (w : World) (s : ℕ) (e : Event) → StandsFor k w → StandsFor (after_at k s e) (at_site w s e)
-stands_at k w s e h = on (s == 1) refl
-  where
-    on : (t : Bool) → (s == 1) ≡ t → StandsFor (cond t (after_event k e) (after_nothing k)) (at_site w s e)
-    on true t =
-        let same : s ≡ 1 = grind (arith, nat_tests) in
-        subst (λ n. StandsFor (after_event k e) (at_site w n e)) (sym same) (stands_event k w e h)
-    on false t = stands_nothing k w s e h t
+stands_at k w s e h = subst (λ sites. StandsFor (after_at k s e) (at_one w s e (nth sites s))) (sym h.sites) (stands_one k w s e (nth k.sites s) h)
+
+events-one : (k : Kept) (s : ℕ) (e : Event) (o : Option Site) → (after_one k s e o).events ≡ k.events + 1
+events-one k s e None = refl
+events-one k s e (Some site) = refl
 
 pub events-at : (k : Kept) (s : ℕ) (e : Event) → (after_at k s e).events ≡ k.events + 1
-events-at k s e = on (s == 1)
-  where
-    on : (t : Bool) → (cond t (after_event k e) (after_nothing k)).events ≡ k.events + 1
-    on true = refl
-    on false = refl
+events-at k s e = events-one k s e (nth k.sites s)
+
+-- the site of a number that there is, and where there is none
+pub after_stepped : (k : Kept) (s place : ℕ) (e : Event) (site : Site) → s ≡ place + 1 → slice_get k.sites place ≡ Some site → after_at k s e ≡ after_step (place + 1) k (site_step site e)
+after_stepped k s place e site is at =
+    ap (λ n. after_at k n e) is
+    ∙ ap (after_one k (place + 1) e) (nth-get k.sites (place + 1) site (omega arith) (λ m f. let same : m ≡ place = omega arith in ap (λ i. slice_get k.sites i) same ∙ at))
+
+pub after_none : (k : Kept) (s : ℕ) (e : Event) → (s ≡ 0) ⊎ (length k.sites < s) → after_at k s e ≡ after_nothing k
+after_none k s e out = ap (after_one k s e) (nth-outside k.sites s out)
 
 -- A PACKET IS DELIVERED
 or-false : (a b : Bool) → b ≡ false → (a || (b || false)) ≡ a
@@ -270,3 +279,62 @@ pub come_not : {A : Type 0} (place : ℕ) (old new : Kept) → place < length ol
 come_not place old new within =
     let there = some-place old.sent place within in
     record { sent = there.0; at = there.1; after = tt; limit = tt }
+
+-- A SITE TAKES AN EVENT
+map-get : {A B : Type 0} (f : A → B) (xs : List A) (place : ℕ) (x : A) → slice_get xs place ≡ Some x → slice_get (map f xs) place ≡ Some (f x)
+map-get f [] place x e = absurd (cc)
+map-get f (y ∷ ys) zero x e =
+    let same : y ≡ x = cc in
+    ap (λ z. Some (f z)) same
+map-get f (y ∷ ys) (suc place) x e = map-get f ys place x e
+
+map-put : {A B : Type 0} (f : A → B) (xs : List A) (place : ℕ) (x : A) → map f (slice_set xs place x) ≡ slice_set (map f xs) place (f x)
+map-put f [] place x = refl
+map-put f (y ∷ ys) zero x = refl
+map-put f (y ∷ ys) (suc place) x = ap (λ zs. f y ∷ zs) (map-put f ys place x)
+
+pub has_stepped : {E : Type 0} (r : Result Outputs E) (sites : List Served) (place : ℕ) (other new : Served) (e : Event) → place < length sites
+    → OnOk r (new.site ≡ (site_step (get_or sites place other).site e).site) → IfOk r (λ out. out ≡ (site_step (get_or sites place other).site e).out)
+    → IfOk r (λ out. HasStepped place e sites (slice_set sites place new) out)
+has_stepped (Ok out) sites place other new e within site gives = record {
+  site = (get_or sites place other).site;
+  at = map-get site_of sites place (get_or sites place other) (slice_get-get_or sites place other within);
+  sites = map-put site_of sites place new ∙ ap (λ x. slice_set (map site_of sites) place x) site;
+  gives = gives;
+}
+has_stepped (Err x) sites place other new e within site gives = tt
+
+-- and the world is as after it
+pub world_stepped : (k : Kept) (s place : ℕ) (e : Event) (sites new : List Served) (out : Outputs) → s ≡ place + 1 → k.sites ≡ map site_of sites → (h : HasStepped place e sites new out)
+    → after_at k s e ≡ record {
+      sites = map site_of new;
+      sent = k.sent ++ unmarked out.packets;
+      cursor = k.cursor;
+      history = noted_all k.history out.notes;
+      events = k.events + 1;
+      sessions = k.sessions + opened_in out.notes;
+      transactions = k.transactions + begun_in out.notes;
+    }
+world_stepped k s place e sites new out is are h =
+    let r = site_step h.site e in
+    let at : slice_get k.sites place ≡ Some h.site = ap (λ xs. slice_get xs place) are ∙ h.at in
+    let back : place + 1 - 1 ≡ place = omega arith in
+    after_stepped k s place e h.site is at
+    ∙ (λ i. record {
+      sites = slice_set (are i) (back i) r.site;
+      sent = k.sent ++ unmarked (sym h.gives i).packets;
+      cursor = k.cursor;
+      history = noted_all k.history (sym h.gives i).notes;
+      events = k.events + 1;
+      sessions = k.sessions + opened_in (sym h.gives i).notes;
+      transactions = k.transactions + begun_in (sym h.gives i).notes;
+    })
+    ∙ ap (λ xs. record {
+      sites = xs;
+      sent = k.sent ++ unmarked out.packets;
+      cursor = k.cursor;
+      history = noted_all k.history out.notes;
+      events = k.events + 1;
+      sessions = k.sessions + opened_in out.notes;
+      transactions = k.transactions + begun_in out.notes;
+    }) (sym h.sites)

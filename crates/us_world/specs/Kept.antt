@@ -1,28 +1,33 @@
 -- What is kept of a world, and which worlds it stands for.
-use Rattle.std.specs.Prelude.{◌≡◌, ⊤, ℕ, ◌+◌, ◌<◌, ◌≤◌, ◌==◌, List, [], ◌∷◌, ◌++◌, map, Bool, true, false, not, ◌&&◌, if◌then◌else◌, slice_get, slice_set, Option, Some, None, Result, Ok, Err, OnOk}
+use Rattle.std.specs.Prelude.{◌≡◌, ⊤, ℕ, ◌+◌, ◌-◌, ◌<◌, ◌≤◌, ◌==◌, List, [], ◌∷◌, ◌++◌, map, Bool, true, false, not, ◌&&◌, if◌then◌else◌, slice_get, slice_set, Option, Some, None, Result, Ok, Err, OnOk}
 use Rattle.us_peer_wire.specs.declared.message.Packet.{Packet}
 use Rattle.us_model.specs.declared.event.Event.{Event}
 use Rattle.us_model.specs.declared.event.Event.TheVariants as event
 use Rattle.us_model.specs.State.{Site}
 use Rattle.us_model.specs.Sites.{Stepped, site_step}
-use Rattle.us_model.specs.Worlds.{World, is_delivered}
+use Rattle.us_model.specs.declared.event.Outputs.{Outputs}
+use Rattle.us_site.specs.Served.{Served}
+use Rattle.us_model.specs.Worlds.{World, nth, is_delivered}
 use Rattle.us_model.specs.Executions.{History, noted_all, history_of}
 use Rattle.us_world.specs.declared.world.Sent.{Sent}
 use Rattle.us_world.specs.declared.fault.WorldFault.{WorldFault}
 use Rattle.us_world.specs.declared.fault.WorldFault.TheVariants as fault
 use Rattle.us_world.specs.Limits.{past_limits, opened_in, begun_in}
 
--- the one site, all packets ever sent with a mark at those that were delivered, a place before which all are marked, what
+-- the sites from 1, all packets ever sent with a mark at those that were delivered, a place before which all are marked, what
 -- was told, and how many events, opened sessions and begun transactions there were
 pub record Kept : Type 0 where
-  pub site : Site
+  pub sites : List Site
   pub sent : List Sent
   pub cursor : ℕ
   pub history : History
   pub events : ℕ
   pub sessions : ℕ
   pub transactions : ℕ
-  pub stopped : Bool
+
+-- the machine's site of one that is served
+abbrev pub site_of : Served → Site
+site_of s = s.site
 
 -- the packets that were sent
 abbrev pub packet_of : Sent → Packet
@@ -42,7 +47,7 @@ AllMarked sent first end = (i : ℕ) → first ≤ i → i < end → is_marked_a
 
 -- the kept stands for the world
 pub record StandsFor (k : Kept) (w : World) : Type 0 where
-  pub sites : w.sites ≡ k.site ∷ []
+  pub sites : w.sites ≡ k.sites
   pub packets : w.packets ≡ map packet_of k.sent
   pub marked : (i : ℕ) → is_delivered w.delivered (i + 1) ≡ is_marked_at k.sent i
   pub before : AllMarked k.sent 0 k.cursor
@@ -57,30 +62,37 @@ fresh p = record { packet = p; delivered = false }
 abbrev pub unmarked : List Packet → List Sent
 unmarked ps = map fresh ps
 
--- what is kept after a step of the site
-abbrev pub after_step : Kept → Stepped → Kept
-after_step k r =
+-- the site at this place takes an event
+pub record HasStepped (place : ℕ) (e : Event) (old new : List Served) (out : Outputs) : Type 0 where
+  pub site : Site
+  pub at : slice_get (map site_of old) place ≡ Some site
+  pub sites : map site_of new ≡ slice_set (map site_of old) place (site_step site e).site
+  pub gives : out ≡ (site_step site e).out
+
+-- what is kept after a step of the site with this number
+abbrev pub after_step : ℕ → Kept → Stepped → Kept
+after_step s k r =
     record {
-      site = r.site;
+      sites = slice_set k.sites (s - 1) r.site;
       sent = k.sent ++ unmarked r.out.packets;
       cursor = k.cursor;
       history = noted_all k.history r.out.notes;
       events = k.events + 1;
       sessions = k.sessions + opened_in r.out.notes;
       transactions = k.transactions + begun_in r.out.notes;
-      stopped = k.stopped;
     }
-
-abbrev pub after_event : Kept → Event → Kept
-after_event k e = after_step k (site_step k.site e)
 
 -- an event where no site is
 abbrev pub after_nothing : Kept → Kept
 after_nothing k = record k { events = k.events + 1 }
 
 -- what is kept after an event at a site
+abbrev pub after_one : Kept → ℕ → Event → Option Site → Kept
+after_one k s e None = after_nothing k
+after_one k s e (Some site) = after_step s k (site_step site e)
+
 abbrev pub after_at : Kept → ℕ → Event → Kept
-after_at k site e = if site == 1 then after_event k e else after_nothing k
+after_at k s e = after_one k s e (nth k.sites s)
 
 -- the packet at this place is delivered
 abbrev pub marked : ℕ → Sent → Kept → Kept

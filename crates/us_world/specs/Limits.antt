@@ -1,10 +1,11 @@
--- The limits of a run, and what lines lead to within them.
-use Rattle.std.specs.Prelude.{◌≡◌, ⊤, ℕ, ◌+◌, ◌⊎◌, nat_lt, Bool, true, false, if◌then◌else◌, List, [], ◌∷◌, length, Option, Some, None}
+-- The limits of a run, the events that lines stand for, and the world that they reach within the limits.
+use Rattle.std.specs.Prelude.{◌≡◌, ⊤, ℕ, ◌+◌, nat_lt, Bool, true, false, if◌then◌else◌, List, [], ◌∷◌, ◌++◌, length, Option, Some, None}
 use Rattle.us_schedule.specs.declared.line.Line.{Line}
 use Rattle.us_schedule.specs.declared.line.Line.TheVariants as line
 use Rattle.us_model.specs.declared.event.Note.{Note}
 use Rattle.us_model.specs.declared.event.Note.TheVariants as note
-use Rattle.us_model.specs.Worlds.{World, Happening, Opens, Sends, Closes, Comes, Flushes, nth, least_undelivered, happens, run}
+use Rattle.us_model.specs.Worlds.{World, Happening, Opens, Sends, Closes, Comes, Flushes, nth, least_undelivered, happens, run, start}
+use Rattle.us_model.specs.declared.settings.Settings.{Settings}
 use Rattle.us_peer_wire.specs.declared.message.Packet.{Packet}
 use Rattle.us_world.specs.declared.fault.WorldFault.{WorldFault}
 use Rattle.us_world.specs.declared.fault.WorldFault.TheVariants as fault
@@ -87,30 +88,40 @@ abbrev pub Begins : Line → World → List Happening → Type 0
 Begins (line.Flush from to) w hs = Delivers from to w hs
 Begins l w hs = Performs l w hs
 
--- ---- what lines lead to
+-- ---- the events of lines
 
--- the world that is reached, or the limit that is passed and the number of the line
-pub data Outcome : Type 0 where
-  Reaches : World → Outcome
-  Passes : (line : ℕ) → WorldFault → Outcome
+-- of this line its own events in the world, and then others
+abbrev pub GoOn : Line → World → List Happening → (World → List Happening → Type 0) → Type 0
+GoOn l w es Others = (own : List Happening) × (others : List Happening) × Performs l w own × (es ≡ own ++ others) × Others (run own w) others
 
--- a line is performed within the limits, and so many events having been then, the rest leads on from the world that it leaves
-abbrev pub GoesOn : Line → ℕ → World → (ℕ → World → Type 0) → Type 0
-GoesOn l events w Rest = (hs : List Happening) × Performs l w hs × (limit_of events hs w ≡ None) × Rest (events + length hs) (run hs w)
+-- THE EVENTS OF LINES from a world on: of each line those that it stands for in the world that the earlier ones reach
+abbrev pub AreEventsOf : List Numbered → World → List Happening → Type 0
+AreEventsOf [] w es = es ≡ []
+AreEventsOf (l ∷ ls) w es = GoOn l.line w es (λ v others. AreEventsOf ls v others)
 
--- a line passes a limit
-abbrev pub GoesPast : Line → ℕ → World → WorldFault → Type 0
-GoesPast l events w which = (hs : List Happening) × Begins l w hs × (limit_of events hs w ≡ Some which)
+-- THE WORLD OF LINES: the run over their events, none of which passes a limit
+pub record IsWorldOf (settings : Settings) (lines : List Numbered) (w : World) : Type 0 where
+  pub events : List Happening
+  pub are : AreEventsOf lines (start settings) events
+  pub within : limit_of 0 events (start settings) ≡ None
+  pub run : w ≡ run events (start settings)
 
--- and so lines come to an end
-abbrev pub EndsPast : Numbered → ℕ → World → Outcome → Type 0
-EndsPast l events w outcome = (which : WorldFault) × GoesPast l.line events w which × (outcome ≡ Passes l.number which)
+-- THE LIMIT OF LINES: those before the one of this number are within the limits, and the first of its own events pass this one
+pub record IsPassedAt (settings : Settings) (lines : List Numbered) (number : ℕ) (which : WorldFault) : Type 0 where
+  pub before : List Numbered
+  pub line : Numbered
+  pub after : List Numbered
+  pub split : lines ≡ before ++ line ∷ after
+  pub at : line.number ≡ number
+  pub events : List Happening
+  pub are : AreEventsOf before (start settings) events
+  pub within : limit_of 0 events (start settings) ≡ None
+  pub own : List Happening
+  pub first : Begins line.line (run events (start settings)) own
+  pub passes : limit_of (length events) own (run events (start settings)) ≡ Some which
 
--- LINES LEAD from a world, so many events having been, to an outcome
-abbrev pub Leads : List Numbered → ℕ → World → Outcome → Type 0
-Leads [] events w outcome = outcome ≡ Reaches w
-Leads (l ∷ ls) events w outcome = GoesOn l.line events w (λ n v. Leads ls n v outcome) ⊎ EndsPast l events w outcome
-
--- two outcomes to which the same lines lead are the same
-abbrev pub OutcomesAreOne : Type 0
-OutcomesAreOne = (lines : List Numbered) (events : ℕ) (w : World) (a b : Outcome) → Leads lines events w a → Leads lines events w b → a ≡ b
+-- the same lines have one world or one limit
+pub record OutcomesAreOne : Type 0 where
+  pub worlds : (settings : Settings) (lines : List Numbered) (w v : World) → IsWorldOf settings lines w → IsWorldOf settings lines v → w ≡ v
+  pub limits : (settings : Settings) (lines : List Numbered) (n m : ℕ) (a b : WorldFault) → IsPassedAt settings lines n a → IsPassedAt settings lines m b → (n ≡ m) × (a ≡ b)
+  pub apart : (settings : Settings) (lines : List Numbered) (w : World) (n : ℕ) (a : WorldFault) → IsWorldOf settings lines w → IsPassedAt settings lines n a → ⊥

@@ -4,13 +4,13 @@ use Rattle.us_schedule.specs.declared.line.Line.{Line}
 use Rattle.us_schedule.specs.declared.line.Line.TheVariants as line
 use Rattle.us_exec.specs.declared.WaitingRequest.{WaitingRequest}
 use Rattle.us_report.specs.declared.report.Report.{Report}
-use Rattle.us_model.specs.State.{Spaces}
-use Rattle.us_model.specs.Worlds.{World, Happening, Waits, waits_of, run, start}
+use Rattle.us_model.specs.declared.settings.Settings.{Settings}
+use Rattle.us_model.specs.Worlds.{World, Happening, Waits, waits_of, run}
 use Rattle.us_model.specs.Executions.{execution_of, refusals_of}
 use Rattle.us_order.specs.Pasts.{direct_execution}
 use Rattle.us_world.specs.Direct.{reported}
 use Rattle.us_world.specs.Kept.{Kept, StandsFor}
-use Rattle.us_world.specs.Limits.{Performs, Begins, delivery, limit_of, Reaches, Passes, Leads}
+use Rattle.us_world.specs.Limits.{Performs, Begins, delivery, limit_of, IsWorldOf, IsPassedAt}
 use Rattle.us_world.specs.declared.fault.WorldFault.{WorldFault}
 use Rattle.us_world.specs.declared.fault.WorldFault.TheVariants as fault
 use Rattle.us_world.specs.declared.fault.LinesFault.{LinesFault}
@@ -70,37 +70,29 @@ report_of w = record { execution = execution_of w.notes; refused = map reported 
 
 -- as it is of what is kept
 abbrev pub report_of_kept : Kept → Report
-report_of_kept k = record { execution = direct_execution k.history; refused = map reported k.history.refused; waiting = map waiting (waits_of (k.site ∷ [])) }
+report_of_kept k = record { execution = direct_execution k.history; refused = map reported k.history.refused; waiting = map waiting (waits_of k.sites) }
 
--- the lines lead from the opening world with these spaces to this world
-abbrev pub LeadTo : Spaces → List Numbered → World → Type 0
-LeadTo spaces lines w = Leads lines 0 (start spaces) (Reaches w)
-
--- the lines pass a limit at the line of this number
-abbrev pub PassAt : Spaces → List Numbered → ℕ → WorldFault → Type 0
-PassAt spaces lines number which = Leads lines 0 (start spaces) (Passes number which)
-
--- what is kept stands for a world that the lines lead to
-pub record HasReached (spaces : Spaces) (lines : List Numbered) (k : Kept) : Type 0 where
+-- what is kept stands for the world of the lines
+pub record HasReached (settings : Settings) (lines : List Numbered) (k : Kept) : Type 0 where
   pub world : World
   pub stands : StandsFor k world
-  pub leads : LeadTo spaces lines world
+  pub is : IsWorldOf settings lines world
 
--- the lines lead to some world
-pub record LeadOn (spaces : Spaces) (lines : List Numbered) : Type 0 where
+-- the lines have a world
+pub record HaveWorld (settings : Settings) (lines : List Numbered) : Type 0 where
   pub world : World
-  pub leads : LeadTo spaces lines world
+  pub is : IsWorldOf settings lines world
 
--- the report is that of the world which the lines lead to
-pub record IsReportOf (spaces : Spaces) (lines : List Numbered) (report : Report) : Type 0 where
+-- the report is that of the world of the lines
+pub record IsReportOf (settings : Settings) (lines : List Numbered) (report : Report) : Type 0 where
   pub world : World
-  pub leads : LeadTo spaces lines world
+  pub reached : IsWorldOf settings lines world
   pub is : report ≡ report_of world
 
 -- the lines pass that limit at that line, unless memory ran out
-abbrev pub IsLimitOf : Spaces → List Numbered → LinesFault → Type 0
-IsLimitOf spaces lines (ends.Limit number which) = PassAt spaces lines number which
-IsLimitOf spaces lines ends.Memory = ⊤
+abbrev pub IsLimitOf : Settings → List Numbered → LinesFault → Type 0
+IsLimitOf settings lines (ends.Limit number which) = IsPassedAt settings lines number which
+IsLimitOf settings lines ends.Memory = ⊤
 
 -- the fault of a line
 abbrev pub fault_at : ℕ → WorldFault → LinesFault

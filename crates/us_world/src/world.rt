@@ -1,9 +1,10 @@
-//! A world of one site, and the packets of it.
+//! A world: its sites, and the packets between their actors.
 ghost use Rattle.std.specs.Prelude.{◌≡◌, ◌+◌, ◌++◌, ◌<◌, ◌≤◌, ◌^◌, true, false, length, map, IfOk, IfErr, IfSome, IfNone, OnOk};
-ghost use Rattle.us_model.specs.Worlds.{start, Flushes};
+ghost use Rattle.us_base.specs.Shape.{IsShape};
+ghost use Rattle.us_model.specs.Worlds.{new_sites, start, waits_of, Flushes};
 ghost use Rattle.us_model.specs.Executions.{noted_all};
 ghost use Rattle.us_order.specs.Ascending.{Ascends};
-ghost use Rattle.us_world.specs.Kept.{AllMarked, StandsFor, unmarked, after_event, after_at, passed_by, is_due, is_due_at, NoneDue, HasSkipped, HasCome, IsDelivered, LimitSays};
+ghost use Rattle.us_world.specs.Kept.{AllMarked, StandsFor, unmarked, site_of, HasStepped, after_at, passed_by, is_due, is_due_at, NoneDue, HasSkipped, HasCome, IsDelivered, LimitSays};
 ghost use Rattle.us_world.specs.Limits.{Delivers, is_opening, is_beginning, opened_in, begun_in};
 ghost use Rattle.us_world.specs.Lines.{waiting, IsBuilt, GoesBy, StoppedBy, IsDelivery, IsPerformed, IsStopped, report_of_kept};
 
@@ -17,11 +18,8 @@ use us_kind::{Bytes, Items, Memory};
 use us_peer_wire::Packet;
 use us_report::Report;
 use us_schedule::Line;
-use us_site::{Event, Note, Site, Unanswered};
-use us_value::Catalog;
-
-/// The site that there is.
-const SITE: u8 = 1;
+use us_model::Settings;
+use us_site::{Event, Note, Outputs, Site, Unanswered};
 
 /// The most events of a run.
 const MOST_EVENTS: u64 = Limits::RUN_EVENTS;
@@ -39,10 +37,10 @@ pub struct Sent {
     pub delivered: bool,
 }
 
-/// A world: its site, all packets that were ever sent, in order, and what the site told.
+/// A world: its sites, all packets that were ever sent, in order, and what the sites told.
 #[derive(Drop)]
 pub struct World {
-    site: Site,
+    sites: Vec<Site>,
     sent: Vec<Sent>,
     // Each packet before this place was delivered.
     cursor: usize,
@@ -53,11 +51,12 @@ pub struct World {
 }
 
 impl Model for World {
-    ghost use Rattle.us_world.specs.Kept.{Kept};
+    ghost use Rattle.std.specs.Prelude.{map};
+    ghost use Rattle.us_world.specs.Kept.{Kept, site_of};
 
     ghost Value = { Kept };
 
-    ghost view = { λ a. record { site = a.site.site; sent = a.sent.items; cursor = a.cursor; history = a.history; events = a.events; sessions = a.sessions; transactions = a.transactions; stopped = a.site.stopped } };
+    ghost view = { λ a. record { sites = map site_of a.sites.items; sent = a.sent.items; cursor = a.cursor; history = a.history; events = a.events; sessions = a.sessions; transactions = a.transactions } };
 }
 
 fn is_opening(note: &Note) -> bool
@@ -172,6 +171,17 @@ fn first_due(sent: &[Sent], cursor: usize, from: u8, to: u8) -> Option<usize>
     None
 }
 
+/// The sessions that wait, in order.
+fn waits_of(alloc: Global, sites: &[Site]) -> Result<Vec<Unanswered>, Memory>
+    ensures { IfOk result (λ waits. waits.items ≡ waits_of (map site_of sites.now)) }
+{
+    let mut waits = Vec::new(alloc);
+    for site in sites {
+        site.put_waits(&mut waits)?;
+    }
+    Ok(waits)
+}
+
 /// The sessions that wait, as a report has them.
 fn waiting_of(alloc: Global, waits: &[Unanswered]) -> Result<Items<WaitingRequest>, Memory>
     ensures { IfOk result (λ told. told ≡ map waiting waits.now) }
@@ -186,31 +196,61 @@ fn waiting_of(alloc: Global, waits: &[Unanswered]) -> Result<Items<WaitingReques
     Ok(waiting)
 }
 
+/// The sites of a store with these settings, of which nothing has come.
+fn new_sites(alloc: Global, settings: &Settings) -> Result<Vec<Site>, Memory>
+    requires { IsShape settings.now.shape }
+    ensures { IfOk result (λ sites. map site_of sites.items ≡ new_sites settings.now) }
+{
+    let mut sites = Vec::new(alloc);
+    for before in 0..settings.shape.sites() {
+        sites.push(Site::new(alloc, settings, before + 1)?)?;
+    }
+    Ok(sites)
+}
+
+/// The site at this place takes an event, unless memory ran out there before.
+fn step_site(
+    alloc: Global,
+    sites: &mut [Site],
+    place: usize,
+    event: Event,
+) -> Result<Outputs, Memory>
+    requires { place < length sites.old }
+    ensures { IfOk result (λ out. HasStepped place event sites.old sites.new out) }
+{
+    if sites[place].stopped() {
+        return Err(Memory);
+    }
+    sites[place].step(alloc, event)
+}
+
 impl World {
-    /// A world with these spaces in which nothing has happened.
-    pub fn new(alloc: Global, catalog: Catalog) -> World
-        ensures running { result.stopped ≡ false }
-        ensures start { StandsFor result (start catalog) }
-        ensures events { result.events ≡ 0 }
+    /// The opening world of a store with these settings, in which nothing has happened.
+    pub fn new(alloc: Global, settings: &Settings) -> Result<World, Memory>
+        requires { IsShape settings.now.shape }
+        ensures start { IfOk result (λ world. StandsFor world (start settings.now)) }
+        ensures events { IfOk result (λ world. world.events ≡ 0) }
     {
-        World {
-            site: Site::new(alloc, SITE, catalog),
+        Ok(World {
+            sites: new_sites(alloc, settings)?,
             sent: Vec::new(alloc),
             cursor: 0,
             history: History::new(alloc),
             events: 0,
             sessions: 0,
             transactions: 0,
-        }
+        })
     }
 
-    /// An event at the site that there is, with its outputs. After want of memory the world is only dropped.
-    fn step(&mut self, alloc: Global, event: Event) -> Result<(), Memory>
-        requires running { self.old.stopped ≡ false }
+    /// An event at the site of this number, with its outputs. After want of memory the world is only dropped.
+    fn step(&mut self, alloc: Global, site: u8, event: Event) -> Result<(), Memory>
+        requires first { 1 ≤ site }
+        requires last { site ≤ length self.old.sites }
         requires room { self.old.events < 1000000 }
-        ensures { OnOk result (self.new ≡ after_event self.old event) }
+        ensures { OnOk result (self.new ≡ after_at self.old site event) }
     {
-        let out = self.site.step(alloc, event)?;
+        let place = usize::from(site) - 1;
+        let out = step_site(alloc, self.sites.as_mut_slice(), place, event)?;
         self.events += 1;
         self.sessions = plus(self.sessions, opened_in(out.notes.as_slice()))?;
         self.transactions = plus(self.transactions, begun_in(out.notes.as_slice()))?;
@@ -220,14 +260,12 @@ impl World {
 
     /// An event at a site, also where there is none of that number, which changes nothing but counts.
     fn step_at(&mut self, alloc: Global, site: u8, event: Event) -> Result<(), Memory>
-        requires running { self.old.stopped ≡ false }
-        requires room { self.old.events < 1000000 }
-        ensures running { OnOk result (self.new.stopped ≡ false) }
+        requires { self.old.events < 1000000 }
         ensures happened { OnOk result (self.new ≡ after_at self.old site event) }
         ensures cursor { OnOk result (self.new.cursor ≡ self.old.cursor) }
     {
-        if site == SITE {
-            return self.step(alloc, event);
+        if 1 <= site && usize::from(site) <= self.sites.len() {
+            return self.step(alloc, site, event);
         }
         self.events += 1;
         Ok(())
@@ -251,8 +289,6 @@ impl World {
 
     /// An event at a site, within the limits. After a fault the world is only dropped.
     fn happen(&mut self, alloc: Global, site: u8, event: Event) -> Result<(), WorldFault>
-        requires { self.old.stopped ≡ false }
-        ensures running { OnOk result (self.new.stopped ≡ false) }
         ensures happened { OnOk result (self.new ≡ after_at self.old site event) }
         ensures cursor { OnOk result (self.new.cursor ≡ self.old.cursor) }
         ensures limit { LimitSays result (passed_by (after_at self.old site event)) }
@@ -266,9 +302,7 @@ impl World {
 
     /// The packet at this place comes, also one that came before.
     fn deliver_at(&mut self, alloc: Global, place: usize) -> Result<(), WorldFault>
-        requires running { self.old.stopped ≡ false }
-        requires within { place < length self.old.sent }
-        ensures running { OnOk result (self.new.stopped ≡ false) }
+        requires { place < length self.old.sent }
         ensures comes { HasCome result place self.old self.new }
         ensures cursor { OnOk result (self.new.cursor ≡ self.old.cursor) }
     {
@@ -278,8 +312,6 @@ impl World {
 
     /// The packet of this number, from 1, comes, where so many were sent.
     fn deliver(&mut self, alloc: Global, number: u64) -> Result<(), WorldFault>
-        requires { self.old.stopped ≡ false }
-        ensures running { OnOk result (self.new.stopped ≡ false) }
         ensures delivered { OnOk result (GoesBy (IsDelivery number) self.old self.new) }
         ensures forward { OnOk result (self.old.cursor ≤ self.new.cursor) }
         ensures stopped { IfErr result (λ fault. StoppedBy (IsDelivery number) self.old fault) }
@@ -303,8 +335,6 @@ impl World {
 
     /// The packets from one site to another come, in order, and those that are sent meanwhile.
     fn flush(&mut self, alloc: Global, from: u8, to: u8) -> Result<(), WorldFault>
-        requires { self.old.stopped ≡ false }
-        ensures running { OnOk result (self.new.stopped ≡ false) }
         ensures flushed { OnOk result (GoesBy (Flushes from to) self.old self.new) }
         ensures forward { OnOk result (self.old.cursor ≤ self.new.cursor) }
         ensures stopped { IfErr result (λ fault. StoppedBy (Delivers from to) self.old fault) }
@@ -319,9 +349,7 @@ impl World {
     /// number: events first, then sessions, then transactions. After a fault the world is only dropped. Packets that the cursor
     /// went over are not looked at again.
     pub fn perform(&mut self, alloc: Global, line: &Line) -> Result<(), WorldFault>
-        requires running { self.old.stopped ≡ false }
-        requires built { IsBuilt line.now }
-        ensures running { OnOk result (self.new.stopped ≡ false) }
+        requires { IsBuilt line.now }
         ensures performed { OnOk result (IsPerformed line.now self.old self.new) }
         ensures forward { OnOk result (self.old.cursor ≤ self.new.cursor) }
         ensures stopped { IfErr result (λ fault. IsStopped line.now self.old fault) }
@@ -376,7 +404,7 @@ impl World {
         requires { Ascends self.now.history }
         ensures { IfOk result (λ report. report ≡ report_of_kept self.now) }
     {
-        let waits = self.site.waits(alloc)?;
+        let waits = waits_of(alloc, self.sites.as_slice())?;
         Ok(Report {
             execution: self.history.execution(alloc)?,
             refused: self.history.refusals(alloc)?,

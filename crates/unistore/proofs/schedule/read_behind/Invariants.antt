@@ -7,8 +7,8 @@ use Rattle.unistore.proofs.schedule.read_behind.Given as goal
 -- each line so far was taken
 abbrev pub invariant-loop-line : goal.invariant-loop-line
 invariant-loop-line l = record {
-  refused : refused_behind l.first (text_lines l.text) ≡ refused_behind l.number (text_lines l.rest);
-  lines : lines_behind l.first (text_lines l.text) ≡ l.lines ++ lines_behind l.number (text_lines l.rest);
+  refused : refused_behind l.fn.config.shape l.first (text_lines l.text) ≡ refused_behind l.fn.config.shape l.number (text_lines l.rest);
+  lines : lines_behind l.fn.config.shape l.first (text_lines l.text) ≡ l.lines ++ lines_behind l.fn.config.shape l.number (text_lines l.rest);
   built : AllBuilt l.lines;
   number : l.number + length (text_lines l.rest) ≡ l.first + length (text_lines l.text);
 }

@@ -1,9 +1,11 @@
-use Rattle.std.proofs.Common.{◌≡◌, ◌∙◌, ap, sym, arith}
+use Rattle.std.proofs.Common.{◌≡◌, ◌<◌, ◌∙◌, ap, sym, subst, arith}
+use Rattle.us_base.specs.Shape.{IsShape}
+use Rattle.us_base.specs.declared.shape.Shape.{Shape}
 use Rattle.us_model.specs.declared.coordinator.Session.{Session}
 use Rattle.us_peer_wire.specs.declared.message.Actor.{Actor}
 use Rattle.us_model.specs.declared.coordinator.Desk.{Desk}
 use Rattle.us_site.specs.Steps.{acts}
-use Rattle.us_site.proofs.Actors.{acts-me}
+use Rattle.us_site.proofs.Posts.{post, acts-post}
 use Rattle.us_site.proofs.EachSession.{each-desk, each-sessions}
 use Rattle.us_site.proofs.coordinator.each.Goals as goal
 
@@ -15,9 +17,14 @@ loop-i-preserved c =
     let d = c.loop-i.desk in
     let desk : c.act.new.desk ≡ (f d s).desk = c.in_ok-act.ensures.desk ∙ ap (λ (x : Session). (f d x).desk) (sym is) in
     let session : c.act.new.session ≡ (f d s).session = c.in_ok-act.ensures.session ∙ ap (λ (x : Session). (f d x).session) (sym is) in
-    let same : c.act.new.desk.me.site ≡ d.me.site = ap (λ (x : Desk). x.me.site) desk ∙ ap (λ (a : Actor). a.site) (acts-me c.args.catalog.now c.args.turn.now d s) in
     record {
-      site = omega (arith, same, c.loop-i.invariant.site);
+      post = ap post desk ∙ acts-post c.args.catalog.now c.args.turn.now d s ∙ c.loop-i.invariant.post;
       desk = each-desk f d c.act.new.desk s c.act.new.session c.loop-i.sessions c.loop-i.i (omega arith) is desk ∙ c.loop-i.invariant.desk;
       sessions = each-sessions f d c.act.new.desk s c.act.new.session c.loop-i.sessions c.loop-i.i (omega arith) is desk session ∙ c.loop-i.invariant.sessions;
     }
+
+pub act-requires : goal.act-requires
+act-requires c = record {
+  site = subst (λ (p : Actor × Shape). p.0.site < 10) (sym c.loop-i.invariant.post) c.requires.site;
+  shape = subst (λ (p : Actor × Shape). IsShape p.1) (sym c.loop-i.invariant.post) c.requires.shape;
+}

@@ -1,7 +1,11 @@
 use Rattle.std.proofs.Common.{◌≡◌, drop}
 use Rattle.us_model.specs.Sessions.{take_frames}
+use Rattle.us_site.proofs.Posts.{post}
 use Rattle.us_site.proofs.stream.take_all.Given as goal
 
--- the rest of the frames go on from what is now
+-- the rest of the frames go on from what is now, at one desk
 abbrev pub invariant-loop-frame : goal.invariant-loop-frame
-invariant-loop-frame l = take_frames l.catalog l.desk l.session (drop l.frame-index l.frames) l.bad ≡ take_frames l.catalog l.fn.desk l.fn.session l.frames l.bad
+invariant-loop-frame l = record {
+  frames : take_frames l.catalog l.desk l.session (drop l.frame-index l.frames) l.bad ≡ take_frames l.catalog l.fn.desk l.fn.session l.frames l.bad;
+  post : post l.desk ≡ post l.fn.desk;
+}

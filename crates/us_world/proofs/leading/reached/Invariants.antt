@@ -1,4 +1,4 @@
-use Rattle.std.proofs.Common.{◌≡◌, false, drop}
+use Rattle.std.proofs.Common.{drop}
 use Rattle.us_world.specs.Lines.{AllBuilt}
 use Rattle.us_world.proofs.Lines.{HasPerformed}
 use Rattle.us_world.proofs.leading.reached.Given as goal
@@ -6,7 +6,6 @@ use Rattle.us_world.proofs.leading.reached.Given as goal
 -- the lines so far are performed
 abbrev pub invariant-loop-line : goal.invariant-loop-line
 invariant-loop-line l = record {
-  running : l.world.stopped ≡ false;
   built : AllBuilt (drop l.line-index l.lines);
-  performed : HasPerformed l.fn.catalog l.lines (drop l.line-index l.lines) l.world;
+  performed : HasPerformed l.settings l.lines (drop l.line-index l.lines) l.world;
 }

@@ -9,4 +9,4 @@ returns-clause-comes c =
 pub returns-in_err-packet-clause-comes : goal.returns-in_err-packet-clause-comes
 returns-in_err-packet-clause-comes c =
     let p = err_from_is_err_and c.from_residual.result c.from_residual.ensures.1 in
-    rw (p.1, p.2) (come_not c.args.place c.args.self.now _ c.requires.within)
+    rw (p.1, p.2) (come_not c.args.place c.args.self.now _ c.requires)

@@ -7,7 +7,6 @@ pub loop-place-preserved : goal.loop-place-preserved
 loop-place-preserved c =
     let come = c.in_ok-deliver_at.ensures.comes in
     record {
-      running = c.in_ok-deliver_at.ensures.running;
       came = delivered_more c.args.from c.args.to c.args.self.now c.loop-place.self c.next_due.new.self c.deliver_at.new.self c.in-Some.place come.sent c.loop-place.invariant.came
           (record { skipped = c.next_due.ensures.skipped; due = c.in-Some.ensures.found.1; first = c.in-Some.ensures.first })
           come.at come.after come.limit;

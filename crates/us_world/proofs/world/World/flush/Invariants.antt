@@ -1,4 +1,4 @@
-use Rattle.std.proofs.Common.{◌≡◌, ◌≤◌, ◌-◌, false}
+use Rattle.std.proofs.Common.{◌≤◌, ◌-◌}
 use Rattle.us_world.specs.Limits.{Delivers}
 use Rattle.us_world.specs.Lines.{GoesBy}
 use Rattle.us_world.proofs.world.World.flush.Given as goal
@@ -6,7 +6,6 @@ use Rattle.us_world.proofs.world.World.flush.Given as goal
 -- packets came, each time the least
 abbrev pub invariant-loop-place : goal.invariant-loop-place
 invariant-loop-place l = record {
-  running : l.self.stopped ≡ false;
   came : GoesBy (Delivers l.from l.to) l.fn.self l.self;
   forward : l.fn.self.cursor ≤ l.self.cursor;
 }
