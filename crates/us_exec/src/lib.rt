@@ -56,10 +56,11 @@ pub struct Entry {
 }
 
 /// How a transaction stands that was begun and isn't committed.
-#[derive(Clone, Copy, Debug, PartialEq, Eq)]
+#[derive(Debug, PartialEq, Eq, Drop)]
 pub enum LooseEnd {
     Open,
     Left,
+    Aborted { named: Tid, item: Item },
 }
 
 /// A transaction that was begun and isn't committed.
