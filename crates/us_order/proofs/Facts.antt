@@ -208,30 +208,6 @@ once_push ms y old new m m' i j k =
     (λ (d : y ≡ m). ⊎_elim (λ (b : In m' ms). absurd (new m' b (SameKey-sym y m' (subst (λ x. SameKey x m') (sym d) k)))) (λ (e : y ≡ m'). sym d ∙ e) (in_split m' ms y j))
     (in_split m ms y i)
 
--- c stands earlier than d
-abbrev pub StandsEarlier : Committed → Committed → List Committed → Type 0
-StandsEarlier c d [] = ⊥
-StandsEarlier c d (x ∷ xs) = ((x ≡ c) × In d xs) ⊎ StandsEarlier c d xs
-
-pub earlier_front : (c d : Committed) (xs ys : List Committed) → StandsEarlier c d xs → StandsEarlier c d (xs ++ ys)
-earlier_front c d [] ys h = absurd h
-earlier_front c d (x ∷ xs) ys (inl e) = inl (e.0, on xs e.1)
-  where
-    on : (xs : List Committed) → In d xs → In d (xs ++ ys)
-    on [] h = absurd h
-    on (x ∷ xs) (inl e) = inl e
-    on (x ∷ xs) (inr h) = inr (on xs h)
-earlier_front c d (x ∷ xs) ys (inr h) = inr (earlier_front c d xs ys h)
-
-pub earlier_push : (c d : Committed) (xs : List Committed) → In c xs → StandsEarlier c d (xs ++ d ∷ [])
-earlier_push c d [] h = absurd h
-earlier_push c d (x ∷ xs) (inl e) = inl (e, on xs)
-  where
-    on : (xs : List Committed) → In d (xs ++ d ∷ [])
-    on [] = inl refl
-    on (x ∷ xs) = inr (on xs)
-earlier_push c d (x ∷ xs) (inr h) = inr (earlier_push c d xs h)
-
 pub record BegunForm (last : ℕ) (b : Begun) : Type 0 where
   pub site : b.tid.site ≡ 1
   pub coord : b.tid.coord ≡ 1

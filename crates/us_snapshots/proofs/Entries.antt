@@ -3,8 +3,9 @@ use Rattle.std.proofs.Common.{◌≡◌, ◌⊎◌, inl, inr, ⊎_elim, List, []
 use Rattle.us_kind.specs.Words.{In}
 use Rattle.us_kind.proofs.TestLemmas.{lex-apart, lex-not, tid_less-apart, tid_less-not}
 use Rattle.us_base.specs.Vector.{sum_of}
-use Rattle.us_model.specs.Executions.{Committed, ties, precedes, placed, arbitrated}
-use Rattle.us_order.proofs.Facts.{StandsEarlier}
+use Rattle.us_history.specs.Histories.{Committed}
+use Rattle.us_history.specs.Arbitration.{ties, precedes, placed, arbitrated}
+use Rattle.us_snapshots.proofs.Stands.{StandsEarlier}
 
 -- THE SAME TRANSACTIONS
 pub in_placed : (x c : Committed) (ds : List Committed) → In x (placed c ds) → (c ≡ x) ⊎ In x ds

@@ -1,5 +1,5 @@
--- Each session's committed transactions are numbered from 1, as they were decided.
-use Rattle.std.proofs.Common.{◌≡◌, ◌∙◌, inl, inr, ℕ, zero, suc, ◌+◌, ◌<◌, ◌≤◌, List, [], ◌∷◌, ◌++◌, length, Bool, true, false, cond, Option, Some, None, map, refl, sym, ap, subst, arith, append-nil, true≢false}
+-- Each session's committed transactions are numbered from 1, in the order of decision.
+use Rattle.std.proofs.Common.{◌≡◌, ◌∙◌, inl, inr, ℕ, zero, suc, ◌+◌, ◌<◌, ◌≤◌, List, [], ◌∷◌, ◌++◌, length, Bool, true, false, cond, map, refl, sym, ap, subst, arith, append-nil, true≢false}
 use Rattle.std.specs.List.{range_with_len}
 use Rattle.std.proofs.lemmas.List.{map-append, length-append}
 use Rattle.std.proofs.lemmas.List.Elements.{filter-append}
@@ -10,11 +10,8 @@ use Rattle.us_kind.specs.Ascending.{all_in}
 use Rattle.us_kind.proofs.ListLemmas.{filter_in}
 use Rattle.us_exec.specs.declared.SessionName.{SessionName}
 use Rattle.us_exec.specs.Past.{session_eq}
-use Rattle.us_model.specs.declared.event.Note.{Note}
-use Rattle.us_model.specs.declared.event.Note.TheVariants as note
-use Rattle.us_model.specs.Executions.{Begun, Committed, History, begun_of, committed_in, decided_as, decided_one, noted, noted_all, no_history, history_of}
-use Rattle.us_order.specs.Numbers.{of_session, AreNumbered}
-use Rattle.us_order.proofs.Pasts.{session_eq-true, session_eq-same}
+use Rattle.us_history.specs.Histories.{Committed, committed_in, of_session, AreNumbered}
+use Rattle.us_snapshots.proofs.Tests.{session_eq-true, session_eq-same}
 
 -- EARLIER AND LATER ONES
 all_within : {X : Type 0} (P Q : X → Type 0) (xs : List X) → ((x : X) → In x xs → P x → Q x) → All P xs → All Q xs
@@ -75,26 +72,6 @@ numbers_more cs c h number s =
         let xs = of_session s cs in
         subst (λ ys. map (λ (x : Committed). x.number) ys ≡ range_with_len 1 (length ys)) (sym (append-nil xs)) (h s)
 
--- and so it is after every note
-numbers_note : (h : History) (n : Note) → AreNumbered h.committed → AreNumbered (noted h n).committed
-numbers_note h (note.Opened coord session) are = are
-numbers_note h (note.Begun tid session snapshot) are = are
-numbers_note h (note.Performed tid done) are = are
-numbers_note h (note.Decided tid vector) are = on (begun_of tid h.begun)
-  where
-    on : (b : Option Begun) → AreNumbered (decided_one h vector b).committed
-    on None = are
-    on (Some b) = numbers_more h.committed (decided_as h vector b) are refl
-numbers_note h (note.Left tid) are = are
-numbers_note h (note.Refused session at number) are = are
-
-numbers_notes : (h : History) (ns : List Note) → AreNumbered h.committed → AreNumbered (noted_all h ns).committed
-numbers_notes h [] are = are
-numbers_notes h (n ∷ ns) are = numbers_notes (noted h n) ns (numbers_note h n are)
-
-pub history_numbered : (ns : List Note) → AreNumbered (history_of ns).committed
-history_numbered ns = numbers_notes no_history ns (λ s. refl)
-
 -- of two of a session the one that was decided first has the lesser number
 abbrev pub RisesInSession : Committed → Committed → Type 0
 RisesInSession c d = c.begun.session ≡ d.begun.session → c.number < d.number
@@ -119,3 +96,15 @@ rises (c ∷ cs) h = (all_from (RisesInSession c) cs (λ d i same. first d (h c.
 
 pub numbers_ascend : (cs : List Committed) → AreNumbered cs → AllLater RisesInSession cs
 numbers_ascend cs are = rises cs (λ s. numbers_rise 1 (of_session s cs) (are s))
+
+-- the numbers that there are
+pub number_within : (a : ℕ) (cs : List Committed) → map (λ (c : Committed). c.number) cs ≡ range_with_len a (length cs) → (d : Committed) → In d cs → (a ≤ d.number) × (d.number < a + length cs)
+number_within a [] e d h = absurd h
+number_within a (c ∷ cs) e d (inl s) =
+    let here : c.number ≡ a = cc in
+    let n : c.number ≡ d.number = ap (λ (x : Committed). x.number) s in
+    (omega arith, omega arith)
+number_within a (c ∷ cs) e d (inr i) =
+    let rest : map (λ (x : Committed). x.number) cs ≡ range_with_len (a + 1) (length cs) = cc in
+    let h = number_within (a + 1) cs rest d i in
+    (omega (arith, h.0), omega (arith, h.1))

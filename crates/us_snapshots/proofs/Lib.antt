@@ -1,0 +1,16 @@
+pub mod Tests
+pub mod Stands
+pub mod Numbers
+pub mod Names
+pub mod Acts
+pub mod Entries
+pub mod Counts
+pub mod Pasts
+pub mod Sources
+pub mod Order
+pub mod Closed
+pub mod Direct
+pub mod Ascending
+pub mod Sessions
+pub mod Kept
+pub mod Formed
