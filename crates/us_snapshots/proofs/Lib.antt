@@ -14,3 +14,6 @@ pub mod Ascending
 pub mod Sessions
 pub mod Kept
 pub mod Formed
+pub mod Seen
+pub mod Valued
+pub mod Laws
