@@ -1,76 +1,39 @@
--- Every run's execution is closed, valued and ordered.
-use Rattle.std.proofs.Common.{List, [], refl, sym, subst}
-use Rattle.us_exec.specs.declared.Entry.{Entry}
-use Rattle.us_exec.specs.declared.Loose.{Loose}
-use Rattle.us_exec.specs.Values.{HaveValues}
-use Rattle.us_exec.specs.Consistency.{IsValued}
-use Rattle.us_model.specs.State.{Partition, Spaces}
-use Rattle.us_model.specs.Worlds.{start, run}
-use Rattle.us_model.specs.Executions.{Committed, ops_of, past_of, arbitrated, entries_of, execution_by}
-use Rattle.us_order.specs.Laws.{EveryRunIsPor, PastsAreDirect, ExecutionsAreDirect, ExecutionsAreWellFormed, HistoriesAscend}
-use Rattle.us_order.proofs.Ledgers.{Ledger}
-use Rattle.us_order.proofs.Facts.{PartitionFacts, SharedFacts}
-use Rattle.us_order.proofs.World.{ledger_of, start_facts, run_facts}
-use Rattle.us_order.proofs.Pasts.{past-counts}
-use Rattle.us_order.proofs.Valued.{values_of}
-use Rattle.us_order.proofs.Entries.{in_arbitrated}
-use Rattle.us_order.proofs.Closed.{from_entry, from_loose, closed, ordered}
-use Rattle.us_order.proofs.Direct.{execution-same}
-use Rattle.us_order.proofs.Ascending.{ascends_by}
-use Rattle.us_order.proofs.Numbers.{history_numbered}
-use Rattle.us_order.proofs.Formed.{well_formed}
+-- What holds of snapshot histories holds after every run.
+use Rattle.std.proofs.Common.{List, Bool, false}
+use Rattle.us_exec.specs.declared.Done.{Done}
+use Rattle.us_exec.specs.Consistency.{conflict}
+use Rattle.us_history.specs.Histories.{History}
+use Rattle.us_snapshots.specs.Laws.{OfSnapshotHistories}
+use Rattle.us_snapshots.proofs.Laws.{all_well_formed, all_closed, all_valued, all_ordered, all_counted_directly, all_direct, all_ascend}
+use Rattle.us_model.specs.State.{Spaces}
+use Rattle.us_model.specs.Worlds.{Happening}
+use Rattle.us_order.specs.Laws.{history_after, EveryRunIsPor, PastsAreDirect, ExecutionsAreDirect, ExecutionsAreWellFormed, HistoriesAscend}
+use Rattle.us_order.proofs.Snapshots.{every_run_snapshots}
 
--- VALUED
-valued : (spaces : Spaces) (p : Partition) (l : Ledger) → PartitionFacts spaces p l → SharedFacts l → IsValued (execution_by l.history)
-valued spaces p l part all = record {
-  entries = λ e i.
-      let f = from_entry cs (arbitrated cs) e i in
-      let fi = in_arbitrated f.source cs f.here in
-      let d = part.decided f.source fi in
-      let h = values_of spaces p l part all f.source.begun d.begun [] (ops_of f.source.begun.tid l.history.performed) refl (part.answers f.source.begun d.begun) in
-      subst (λ (x : Entry). HaveValues es x.tid x.past [] x.ops) f.is (subst (λ ds. HaveValues es f.source.begun.tid (past_of cs f.source.begun) [] ds) (sym d.ops) h);
-  loose = λ x i.
-      let f = from_loose l.history l.history.begun x i in
-      let h = values_of spaces p l part all f.source f.here [] (ops_of f.source.tid l.history.performed) refl (part.answers f.source f.here) in
-      subst (λ (y : Loose). HaveValues es y.tid y.past [] y.ops) f.is h;
-}
-  where
-    cs : List Committed
-    cs = l.history.committed
+-- whatever transactions conflict
+holds_after : (Holds : History → Type 0) → OfSnapshotHistories Holds → (spaces : Spaces) (hs : List Happening) → Holds (history_after spaces hs)
+holds_after Holds law spaces hs =
+    let conflicts : List Done → List Done → Bool = λ xs ys. false in
+    let run = every_run_snapshots spaces hs conflicts in
+    law spaces conflicts (history_after spaces hs) run.0 run.1
 
-    es : List Entry
-    es = entries_of cs (arbitrated cs)
-
--- THE LAWS
 pub every_run : EveryRunIsPor
 every_run spaces hs declared =
-    let w = run hs (start spaces) in
-    let h = run_facts spaces hs (start spaces) (start_facts spaces) in
-    let f = h.facts in
-    let p = h.shard.partition in
-    let l = ledger_of h.shard w.packets w.notes in
-    record { closed = closed spaces p l f.part f.all; valued = valued spaces p l f.part f.all; ordered = ordered declared l }
+    let run = every_run_snapshots spaces hs (conflict declared) in
+    record {
+      closed = holds_after _ all_closed spaces hs;
+      valued = holds_after _ all_valued spaces hs;
+      ordered = all_ordered spaces declared (history_after spaces hs) run.0 run.1;
+    }
 
 pub pasts_direct : PastsAreDirect
-pasts_direct spaces hs t s i =
-    let w = run hs (start spaces) in
-    let h = run_facts spaces hs (start spaces) (start_facts spaces) in
-    past-counts spaces h.shard.partition (ledger_of h.shard w.packets w.notes) h.facts.part h.facts.all s t i
+pasts_direct spaces hs t s i = holds_after _ all_counted_directly spaces hs t s i
 
 pub executions_direct : ExecutionsAreDirect
-executions_direct spaces hs =
-    let w = run hs (start spaces) in
-    let h = run_facts spaces hs (start spaces) (start_facts spaces) in
-    execution-same spaces h.shard.partition (ledger_of h.shard w.packets w.notes) h.facts.part h.facts.all
+executions_direct spaces hs = holds_after _ all_direct spaces hs
 
 pub histories_ascended : HistoriesAscend
-histories_ascended spaces hs =
-    let w = run hs (start spaces) in
-    let h = run_facts spaces hs (start spaces) (start_facts spaces) in
-    ascends_by spaces h.shard.partition (ledger_of h.shard w.packets w.notes) h.facts.part h.facts.all
+histories_ascended spaces hs = holds_after _ all_ascend spaces hs
 
-pub all_well_formed : ExecutionsAreWellFormed
-all_well_formed spaces hs =
-    let w = run hs (start spaces) in
-    let h = run_facts spaces hs (start spaces) (start_facts spaces) in
-    well_formed spaces h.shard.partition (ledger_of h.shard w.packets w.notes) h.facts.part h.facts.all (history_numbered w.notes)
+pub well_formed : ExecutionsAreWellFormed
+well_formed spaces hs = holds_after _ all_well_formed spaces hs

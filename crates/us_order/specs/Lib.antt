@@ -1,4 +1,1 @@
-pub mod Pasts
-pub mod Ascending
-pub mod Numbers
 pub mod Laws
