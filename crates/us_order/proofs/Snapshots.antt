@@ -13,7 +13,7 @@ use Rattle.us_exec.specs.WellFormed.{IsOfCoordinator}
 use Rattle.us_history.specs.declared.LogTx.{LogTx}
 use Rattle.us_history.specs.Histories.{Begun, Committed, History, AreNumbered, has_own_vector, ops_of}
 use Rattle.us_history.specs.States.{own_sum}
-use Rattle.us_snapshots.specs.Snapshots.{IsBegunFirst, AreNamed, HasVector, AllAnswered, IsSnapshotHistory}
+use Rattle.us_snapshots.specs.Snapshots.{IsBegunFirst, AreNamed, GoesOnFrom, LinksLeadOn, HasVector, AllAnswered, IsSnapshotHistory}
 use Rattle.us_snapshots.proofs.Numbers.{later_in, RisesInSession, numbers_ascend}
 use Rattle.us_model.specs.State.{Partition, Spaces}
 use Rattle.us_model.specs.Partitions.{known}
@@ -105,6 +105,16 @@ module _ (spaces : Spaces) (p : Partition) (l : Ledger) (part : PartitionFacts s
     numbered = are;
   }
 
+  -- no session goes on from another one
+  no_link : (b : Begun) (c : Committed) → GoesOnFrom l.history.links b c → ⊥
+  no_link b c g = subst (In g.link) plain.unlinked g.here
+
+  links : LinksLeadOn l.history
+  links = record {
+    other = λ c b i j g e. no_link b c g;
+    first = later_in (λ c d. c.begun.tid ≡ d.begun.tid → ⊥) (λ c d. GoesOnFrom l.history.links c.begun d → ⊥) cs (λ c d i j apart g. no_link c.begun d g) all.told.apart;
+  }
+
   answers : (b : Begun) → In b l.history.begun → AllAnswered spaces (decided_in spaces p.log cs) b.tid b.snapshot [] (ops_of b.tid l.history.performed)
   answers b i =
       answered spaces p (decided_in spaces p.log cs) b.tid b.snapshot [] (ops_of b.tid l.history.performed) part.ok
@@ -113,8 +123,8 @@ module _ (spaces : Spaces) (p : Partition) (l : Ledger) (part : PartitionFacts s
   pub is_snapshot_history : (conflicts : List Done → List Done → Bool) → IsSnapshotHistory spaces conflicts l.history (decided_in spaces p.log cs)
   is_snapshot_history conflicts = record {
     names = named;
-    snapshots = all.told.order;
-    unlinked = plain.unlinked;
+    links = links;
+    snapshots = record { earlier = all.told.order; linked = λ c b i j g. absurd (no_link b c g) };
     vectors = λ c i. vector_of spaces p l c (part.decided c i);
     decisions = are_decided spaces p l part all;
     answers = answers;

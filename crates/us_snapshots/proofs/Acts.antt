@@ -6,7 +6,7 @@ use Rattle.std.proofs.lemmas.Bool.{cond_both, and_parts, eqb-true, lt-ltb}
 use Rattle.std.proofs.lemmas.Bool.Decides.{nat_tests}
 use Rattle.std.proofs.lemmas.List.Elements.{filter-append}
 use Rattle.us_kind.specs.Words.{In}
-use Rattle.us_kind.specs.Updates.{All, AllLater, Update, Stamped, state_after, updates_of as updates_in}
+use Rattle.us_kind.specs.Updates.{AllLater, Update, Stamped, state_after, updates_of as updates_in}
 use Rattle.us_kind.specs.declared.identity.Tid.{Tid}
 use Rattle.us_kind.specs.declared.identity.Tag.{Tag}
 use Rattle.us_kind.specs.declared.identity.Stamp.{Stamp}
@@ -21,7 +21,7 @@ use Rattle.us_value.specs.declared.operation.Op.{Op}
 use Rattle.us_value.specs.declared.operation.Effect.{Effect}
 use Rattle.us_value.specs.declared.operation.State.{State}
 use Rattle.us_value.specs.Items.{item_eq}
-use Rattle.us_value.specs.Values.{is_update, op_fits, initial, updated, prepared}
+use Rattle.us_value.specs.Values.{is_update, initial, updated, prepared}
 use Rattle.us_value.proofs.KindLaws.{prepares-updates}
 use Rattle.us_exec.specs.declared.Done.{Done}
 use Rattle.us_exec.specs.Values.{updates_from}

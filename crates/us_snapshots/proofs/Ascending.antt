@@ -1,5 +1,5 @@
 -- In each session the committed transactions ascend.
-use Rattle.std.proofs.Common.{◌≡◌, ⊎_elim, ℕ, ◌<◌, List, Bool, ap, arith}
+use Rattle.std.proofs.Common.{◌≡◌, ⊎_elim, ℕ, ◌<◌, List, [], Bool, ap, arith}
 use Rattle.us_kind.specs.Words.{In}
 use Rattle.us_base.proofs.Vectors.{at_most-trans}
 use Rattle.us_value.specs.declared.operation.Kind.{Kind}
@@ -23,13 +23,13 @@ module _ {spaces : List (ℕ × Kind)} {conflicts : List Done → List Done → 
       (λ later. later)
       (seq_order snap c d i j same (omega arith))
 
-  pub ascends_by : Ascends told
-  ascends_by = record {
-    unlinked = snap.unlinked;
+  pub ascends_by : told.links ≡ [] → Ascends told
+  ascends_by none = record {
+    unlinked = none;
     sessions = record {
       seqs = seqs_ascend;
       vectors = λ c d i j same less.
-          let covered = snap.snapshots c d.begun i (snap.names.begun d j) same (seqs_ascend c d i j same less) in
+          let covered = snap.snapshots.earlier c d.begun i (snap.names.begun d j) same (seqs_ascend c d i j same less) in
           at_most-trans c.vector d.begun.snapshot d.vector covered (snap.vectors d j).at_least;
     };
     committed = λ d j c i. not_own snap c d.begun i (snap.names.begun d j);

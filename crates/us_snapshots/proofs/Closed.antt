@@ -1,11 +1,9 @@
 -- The execution of a snapshot history is closed and ordered.
-use Rattle.std.proofs.Common.{◌≡◌, ◌⊎◌, inl, inr, ⊎_elim, ℕ, ◌<◌, List, [], Bool, true, false, refl, sym, ap, ◌∙◌, subst, arith, true≢false}
-use Rattle.std.specs.Prelude.{◌||◌}
+use Rattle.std.proofs.Common.{◌≡◌, ◌⊎◌, inl, inr, ⊎_elim, ℕ, ◌<◌, ◌≤◌, List, length, Bool, true, false, sym, ap, ◌∙◌, subst, arith, true≢false}
 use Rattle.us_kind.specs.Words.{In, tid_eq}
 use Rattle.us_kind.proofs.TestLemmas.{tid_eq-same}
 use Rattle.us_base.specs.Vector.{at_most}
 use Rattle.us_value.specs.declared.operation.Kind.{Kind}
-use Rattle.us_exec.specs.declared.SessionName.{SessionName}
 use Rattle.us_exec.specs.declared.Done.{Done}
 use Rattle.us_exec.specs.declared.Count.{Count}
 use Rattle.us_exec.specs.declared.Entry.{Entry}
@@ -18,12 +16,13 @@ use Rattle.us_history.specs.Histories.{Begun, Committed, History, has_own_vector
 use Rattle.us_history.specs.Pasts.{past_of}
 use Rattle.us_history.specs.Arbitration.{arbitrated}
 use Rattle.us_history.specs.Executions.{entry_of, entries_of, execution_by}
-use Rattle.us_snapshots.specs.Snapshots.{IsSnapshotHistory}
+use Rattle.us_snapshots.specs.Snapshots.{GoesOnFrom, IsSnapshotHistory}
 use Rattle.us_snapshots.proofs.Tests.{or_left}
 use Rattle.us_snapshots.proofs.Sources.{from_entry, from_loose, entries_stand}
 use Rattle.us_snapshots.proofs.Entries.{in_arbitrated}
-use Rattle.us_snapshots.proofs.Pasts.{before-by, before-from, before_session, before_below}
-use Rattle.us_snapshots.proofs.Order.{seq_order, before_further, before_stands}
+use Rattle.us_snapshots.proofs.Pasts.{leads-from, earlier_leads, reaches-from, reached_by_own}
+use Rattle.us_snapshots.proofs.Order.{seq_order, reaches_stands}
+use Rattle.us_snapshots.proofs.Reached.{reaches_further, before-by, before-from}
 
 module _ {spaces : List (ℕ × Kind)} {conflicts : List Done → List Done → Bool} {told : History} {decided : List LogTx} (snap : IsSnapshotHistory spaces conflicts told decided) where
   abbrev cs : List Committed
@@ -76,22 +75,40 @@ module _ {spaces : List (ℕ × Kind)} {conflicts : List Done → List Done → 
       let g = of_entry e j in
       let to_e = before-by snap f.source g.source.begun f.here g.begun (is_before_by d f g.source.begun (ap (is_before d) (sym (past_is e g)) ∙ a)) in
       let to_t = before-by snap g.source t g.here k (is_before_by e g t b) in
-      is_before_from d f t (before-from told f.source t (before_further snap f.source g.source t f.here g.here k to_e to_t))
+      is_before_from d f t (before-from told f.source t f.here (reaches_further snap f.source g.source t f.here g.here to_e to_t))
 
-  -- no session goes on from another one
-  no_link : {A : Type 0} (l : Link) → In l told.links → A
-  no_link l i = absurd (subst (In l) snap.unlinked i)
+  -- what its session goes on from
+  linked_before : (t : Begun) → In t told.begun → (l : Link) (e : Entry) → In l told.links → In e (execution_by past_of told).entries
+      → l.session ≡ t.session → e.session ≡ l.from → e.number ≤ l.count → is_before e (past t) ≡ true
+  linked_before t k l e i j session from count =
+      let g = of_entry e j in
+      let n : g.source.number ≡ e.number = ap (λ (x : Entry). x.number) g.is in
+      let goes : GoesOnFrom told.links t g.source = record {
+        link = l;
+        here = i;
+        session = session;
+        from = sym (ap (λ (x : Entry). x.session) g.is ∙ from);
+        count = omega arith;
+      } in
+      let step = leads-from told.links g.source t (record { other = snap.links.other g.source t g.here k goes; by = inl goes }) in
+      is_before_from e g t (before-from told g.source t g.here (reaches-from (length cs) told.links cs g.source t step))
 
   closed_past : (t : Begun) → In t told.begun → IsClosedPast (execution_by past_of told) t.session (past t)
-  closed_past t k = record { linked = λ l e i. no_link l i; closed = λ d e i j a b. further d e i j t k a b }
+  closed_past t k = record { linked = linked_before t k; closed = λ d e i j a b. further d e i j t k a b }
+
+  -- what its session committed before
+  earlier_before : (c : Committed) (t : Begun) → In c cs → c.begun.session ≡ t.session → c.begun.tid.seq < t.tid.seq → is_before (entry_of past c) (past t) ≡ true
+  earlier_before c t i same less =
+      let step = leads-from told.links c t (earlier_leads told.links c t (same, less)) in
+      before-from told c t i (reaches-from (length cs) told.links cs c t step)
 
   in_session : (d e : Entry) → In d (execution_by past_of told).entries → In e (execution_by past_of told).entries
       → d.session ≡ e.session → d.number < e.number → is_before d e.past ≡ true
   in_session d e i j same less =
       let f = of_entry d i in
       let g = of_entry e j in
-      let before = before_session cs f.source g.source.begun f.here (same_session d e f g same) (begun_before d e f g same less) in
-      ap (is_before d) (past_is e g) ∙ is_before_from d f g.source.begun (before-from told f.source g.source.begun before)
+      let before = earlier_before f.source g.source.begun f.here (same_session d e f g same) (begun_before d e f g same less) in
+      ap (is_before d) (past_is e g) ∙ is_before_from d f g.source.begun before
 
   in_loose_session : (d : Entry) (x : Loose) → In d (execution_by past_of told).entries → In x (execution_by past_of told).loose
       → d.session ≡ x.session → d.tid.seq < x.tid.seq → is_before d x.past ≡ true
@@ -101,8 +118,8 @@ module _ {spaces : List (ℕ × Kind)} {conflicts : List Done → List Done → 
       let n : f.source.begun.tid.seq ≡ d.tid.seq = ap (λ (e : Entry). e.tid.seq) f.is in
       let m : g.source.tid.seq ≡ x.tid.seq = ap (λ (y : Loose). y.tid.seq) g.is in
       let s : f.source.begun.session ≡ g.source.session = ap (λ (e : Entry). e.session) f.is ∙ same ∙ sym (ap (λ (y : Loose). y.session) g.is) in
-      let before = before_session cs f.source g.source f.here s (omega arith) in
-      ap (is_before d) (sym (ap (λ (y : Loose). y.past) g.is)) ∙ is_before_from d f g.source (before-from told f.source g.source before)
+      let before = earlier_before f.source g.source f.here s (omega arith) in
+      ap (is_before d) (sym (ap (λ (y : Loose). y.past) g.is)) ∙ is_before_from d f g.source before
 
   stands_earlier : (d e : Entry) → In d (execution_by past_of told).entries → In e (execution_by past_of told).entries
       → is_before d e.past ≡ true → StandsBefore d e (execution_by past_of told).entries
@@ -110,7 +127,7 @@ module _ {spaces : List (ℕ × Kind)} {conflicts : List Done → List Done → 
       let f = of_entry d i in
       let g = of_entry e j in
       let before = before-by snap f.source g.source.begun f.here g.begun (is_before_by d f g.source.begun (ap (is_before d) (sym (past_is e g)) ∙ a)) in
-      let stands = entries_stand past (arbitrated cs) f.source g.source (before_stands snap f.source g.source f.here g.here before) in
+      let stands = entries_stand past (arbitrated cs) f.source g.source (reaches_stands snap (length cs) f.source g.source f.here g.here before) in
       let P : Entry → Entry → Type 0 = λ x y. StandsBefore x y (entries_of past (arbitrated cs)) in
       subst (λ x. P x e) f.is (subst (P (entry_of past f.source)) g.is stands)
 
@@ -129,8 +146,8 @@ module _ {spaces : List (ℕ × Kind)} {conflicts : List Done → List Done → 
   strong_before : (d e : Entry) (f : OfEntry d) (g : OfEntry e) → d.strong ≡ true → at_most f.source.vector g.source.begun.snapshot ≡ true → is_before d e.past ≡ true
   strong_before d e f g strong below =
       let own : has_own_vector f.source ≡ true = or_left f.source.strong _ (ap (λ (x : Entry). x.strong) f.is ∙ strong) in
-      let before = before_below snap f.source g.source.begun f.here g.begun own below in
-      ap (is_before d) (past_is e g) ∙ is_before_from d f g.source.begun (before-from told f.source g.source.begun before)
+      let before = reached_by_own snap f.source g.source.begun f.here g.begun own below in
+      ap (is_before d) (past_is e g) ∙ is_before_from d f g.source.begun (before-from told f.source g.source.begun f.here before)
 
   pub strong_ordered : (d e : Entry) → In d (execution_by past_of told).entries → In e (execution_by past_of told).entries
       → tid_eq d.tid e.tid ≡ false → d.strong ≡ true → e.strong ≡ true → conflicts d.ops e.ops ≡ true
@@ -139,7 +156,7 @@ module _ {spaces : List (ℕ × Kind)} {conflicts : List Done → List Done → 
       let f = of_entry d i in
       let g = of_entry e j in
       let other : f.source.begun.tid ≡ g.source.begun.tid → ⊥ = λ same. true≢false (
-          sym (tid_eq-same e.tid) ∙ ap (λ x. tid_eq x e.tid) (sym (ap (λ (x : Entry). x.tid) g.is) ∙ sym same ∙ ap (λ (x : Entry). x.tid) f.is) ∙ apart) in
+      sym (tid_eq-same e.tid) ∙ ap (λ x. tid_eq x e.tid) (sym (ap (λ (x : Entry). x.tid) g.is) ∙ sym same ∙ ap (λ (x : Entry). x.tid) f.is) ∙ apart) in
       let conflicting : conflicts f.source.ops g.source.ops ≡ true = (λ k. conflicts (f.is k).ops (g.is k).ops) ∙ c in
       ⊎_elim
       (λ a. inl (strong_before d e f g sd a))

@@ -6,7 +6,6 @@ use Rattle.us_kind.specs.Words.{In, tid_eq}
 use Rattle.us_kind.specs.Updates.{All, AllLater}
 use Rattle.us_kind.specs.Histories.{all_from}
 use Rattle.us_kind.specs.Ascending.{all_in}
-use Rattle.us_kind.specs.declared.identity.Tid.{Tid}
 use Rattle.us_kind.proofs.TestLemmas.{tid_eq-same}
 use Rattle.us_value.specs.declared.operation.Kind.{Kind}
 use Rattle.us_exec.specs.declared.SessionName.{SessionName}
@@ -28,7 +27,7 @@ use Rattle.us_snapshots.proofs.Sources.{from_loose}
 use Rattle.us_snapshots.proofs.Kept.{KeepsOrder, session_kept, entry_numbers, counted}
 use Rattle.us_snapshots.proofs.Sessions.{sessions_ascend, CountedOf, of_counts, counts_ascend, count_most}
 use Rattle.us_snapshots.proofs.Order.{not_preceding}
-use Rattle.us_snapshots.proofs.Closed.{OfEntry, of_entry, same_session}
+use Rattle.us_snapshots.proofs.Closed.{of_entry, same_session}
 use Rattle.us_snapshots.proofs.Ascending.{seqs_ascend}
 
 -- THE LOOSE TRANSACTIONS
@@ -65,7 +64,7 @@ module _ {spaces : List (ℕ × Kind)} {conflicts : List Done → List Done → 
   -- NUMBERS
   keeps_order : AllLater KeepsOrder cs
   keeps_order = later_in RisesInSession KeepsOrder cs
-      (λ c d i j rises same. not_preceding snap c d j (snap.snapshots c d.begun i (snap.names.begun d j) same (seqs_ascend snap c d i j same (rises same))))
+      (λ c d i j rises same. not_preceding snap c d j (snap.snapshots.earlier c d.begun i (snap.names.begun d j) same (seqs_ascend snap c d i j same (rises same))))
       (numbers_ascend cs snap.names.numbered)
 
   entries_numbers : (s : SessionName) → numbers_of s es ≡ map (λ (c : Committed). c.number) (of_session s cs)

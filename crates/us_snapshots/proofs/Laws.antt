@@ -3,7 +3,6 @@ use Rattle.std.proofs.Common.{ℕ, List, [], Bool, refl, sym, subst}
 use Rattle.us_kind.specs.Words.{In}
 use Rattle.us_value.specs.declared.operation.Kind.{Kind}
 use Rattle.us_exec.specs.declared.Done.{Done}
-use Rattle.us_exec.specs.declared.Count.{Count}
 use Rattle.us_exec.specs.declared.Entry.{Entry}
 use Rattle.us_exec.specs.declared.Loose.{Loose}
 use Rattle.us_exec.specs.Values.{HaveValues}
@@ -15,9 +14,8 @@ use Rattle.us_history.specs.Executions.{execution_by}
 use Rattle.us_snapshots.specs.Snapshots.{IsSnapshotHistory}
 use Rattle.us_snapshots.specs.Laws.{ExecutionsAreWellFormed, ExecutionsAreClosed, ExecutionsAreValued, ExecutionsAreOrdered, CountsAreDirect, ExecutionsAreDirect, HistoriesAscend}
 use Rattle.us_snapshots.proofs.Sources.{from_loose}
-use Rattle.us_snapshots.proofs.Pasts.{past-counts}
 use Rattle.us_snapshots.proofs.Closed.{of_entry, closed, ordered}
-use Rattle.us_snapshots.proofs.Direct.{execution-same}
+use Rattle.us_snapshots.proofs.Direct.{past-counts, execution-same}
 use Rattle.us_snapshots.proofs.Ascending.{ascends_by}
 use Rattle.us_snapshots.proofs.Formed.{well_formed}
 use Rattle.us_snapshots.proofs.Valued.{values_of}
@@ -57,10 +55,10 @@ pub all_ordered : ExecutionsAreOrdered
 all_ordered spaces declared h decided snap = ordered declared snap
 
 pub all_counted_directly : CountsAreDirect
-all_counted_directly spaces conflicts h decided snap t s j = past-counts snap s t j
+all_counted_directly spaces conflicts h decided snap none t s j = past-counts snap none s t j
 
 pub all_direct : ExecutionsAreDirect
-all_direct spaces conflicts h decided snap = execution-same snap
+all_direct spaces conflicts h decided snap none = execution-same snap none
 
 pub all_ascend : HistoriesAscend
-all_ascend spaces conflicts h decided snap = ascends_by snap
+all_ascend spaces conflicts h decided snap none = ascends_by snap none

@@ -17,3 +17,4 @@ pub mod Formed
 pub mod Seen
 pub mod Valued
 pub mod Laws
+pub mod Reached

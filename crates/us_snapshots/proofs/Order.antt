@@ -1,23 +1,24 @@
 -- The order of a session's transactions, and of those that are before others.
-use Rattle.std.proofs.Common.{◌≡◌, ◌⊎◌, inl, inr, ⊎_elim, ℕ, ◌<◌, ◌≤◌, List, Bool, true, false, refl, sym, ap, ◌∙◌, subst, arith}
+use Rattle.std.proofs.Common.{◌≡◌, ◌⊎◌, inl, inr, ⊎_elim, ℕ, zero, suc, ◌<◌, ◌≤◌, List, Bool, true, false, refl, sym, ap, ◌∙◌, arith}
 use Rattle.std.specs.Prelude.{nat_lt}
 use Rattle.std.proofs.lemmas.Bool.Decides.{nat_tests}
 use Rattle.us_kind.specs.Words.{In, lex, tid_less}
 use Rattle.us_kind.specs.declared.identity.Tid.{Tid}
 use Rattle.us_base.specs.Vector.{at_most, sum_of}
-use Rattle.us_base.proofs.Vectors.{at_most-true, at_most-trans, sum-at_most, sum-below}
+use Rattle.us_base.proofs.Vectors.{at_most-true, sum-at_most, sum-below}
 use Rattle.us_value.specs.declared.operation.Kind.{Kind}
 use Rattle.us_exec.specs.declared.SessionName.{SessionName}
 use Rattle.us_exec.specs.declared.Done.{Done}
 use Rattle.us_exec.specs.WellFormed.{IsOfCoordinator}
 use Rattle.us_history.specs.declared.LogTx.{LogTx}
-use Rattle.us_history.specs.Histories.{Begun, Committed, History, has_own_vector}
+use Rattle.us_history.specs.Histories.{Committed, History, has_own_vector}
+use Rattle.us_history.specs.Pasts.{leads, reaches_within}
 use Rattle.us_history.specs.Arbitration.{ties, precedes, arbitrated}
-use Rattle.us_snapshots.specs.Snapshots.{IsSnapshotHistory}
-use Rattle.us_snapshots.proofs.Stands.{StandsEarlier}
+use Rattle.us_snapshots.specs.Snapshots.{GoesOnFrom, IsSnapshotHistory}
+use Rattle.us_snapshots.proofs.Stands.{StandsEarlier, one_earlier, earlier_later, TidsApart, stands_further, behind, behind-less}
 use Rattle.us_snapshots.proofs.Names.{decided_one, stands, numbers}
-use Rattle.us_snapshots.proofs.Entries.{arbitrated_holds, arbitrated-sorted, precedes_stands, stands_arbitrated}
-use Rattle.us_snapshots.proofs.Pasts.{BeforeBy, leads_below, own_leads}
+use Rattle.us_snapshots.proofs.Entries.{arbitrated_holds, arbitrated-sorted, arbitrated_apart, precedes_stands, stands_arbitrated}
+use Rattle.us_snapshots.proofs.Pasts.{IsEarlier, IsInSnapshot, Leads, leads-true, Through, last_or_more}
 
 -- NUMBERS
 compare : (a b : ℕ) → (a < b) ⊎ ((b < a) ⊎ (a ≡ b))
@@ -76,35 +77,7 @@ module _ {spaces : List (ℕ × Kind)} {conflicts : List Done → List Done → 
 
   -- the snapshot covers what the session committed before
   covered : (c d : Committed) → In c cs → In d cs → c.begun.session ≡ d.begun.session → c.begun.tid.seq < d.begun.tid.seq → at_most c.vector d.begun.snapshot ≡ true
-  covered c d i j e less = snap.snapshots c d.begun i (snap.names.begun d j) e less
-
-  -- so its vectors ascend
-  pub session_below : (c d : Committed) → In c cs → In d cs → c.begun.session ≡ d.begun.session → c.number ≤ d.number
-      → (v : List ℕ) → at_most v c.vector ≡ true → at_most v d.vector ≡ true
-  session_below c d i j e le v h = ⊎_elim
-      (λ s. subst (λ (x : Committed). at_most v x.vector ≡ true) s h)
-      (λ less.
-      at_most-trans v c.vector d.vector h
-      (at_most-trans c.vector d.begun.snapshot d.vector (covered c d i j e less) (snap.vectors d j).at_least))
-      (seq_order c d i j e le)
-
-  -- WHAT IS BEFORE WHAT IS BEFORE
-  pub before_further : (c d : Committed) (t : Begun) → In c cs → In d cs → In t told.begun → BeforeBy cs c d.begun → BeforeBy cs d t → BeforeBy cs c t
-  before_further c d t i j k g h = ⊎_elim by_session by_vector g.leads_to.by
-    where
-      by_session : (g.by.begun.session ≡ d.begun.session) × (g.by.begun.tid.seq < d.begun.tid.seq) → BeforeBy cs c t
-      by_session a =
-          let less = numbers snap.names g.by d g.here j a.0 a.1 in
-          let m = g.number in
-          let n = h.number in
-          record { by = h.by; here = h.here; session = h.session ∙ sym a.0 ∙ g.session; number = omega arith; leads_to = h.leads_to }
-
-      by_vector : (has_own_vector g.by ≡ true) × (at_most g.by.vector d.begun.snapshot ≡ true) → BeforeBy cs c t
-      by_vector b =
-          let to_d = at_most-trans g.by.vector d.begun.snapshot d.vector b.1 (snap.vectors d j).at_least in
-          let below = at_most-trans g.by.vector h.by.vector t.snapshot
-          (session_below d h.by j h.here (sym h.session) h.number g.by.vector to_d) (leads_below snap h.by t h.here k h.leads_to) in
-          record { by = g.by; here = g.here; session = g.session; number = g.number; leads_to = own_leads snap g.by t g.here k b.0 below }
+  covered c d i j e less = snap.snapshots.earlier c d.begun i (snap.names.begun d j) e less
 
   -- WHAT IS BEFORE STANDS EARLIER
   -- of a transaction whose snapshot is above v
@@ -136,28 +109,45 @@ module _ {spaces : List (ℕ × Kind)} {conflicts : List Done → List Done → 
       on true e = lex-first (sum_of c.vector) (sum_of d.vector) _ (sums.1 e)
       on false e = lex-tie (sum_of c.vector) (sum_of d.vector) _ sums.0 (λ k. ties (own k) (e k) (tid_less c.begun.tid d.begun.tid))
 
-  pub before_stands : (c d : Committed) → In c cs → In d cs → BeforeBy cs c d.begun → StandsEarlier c d (arbitrated cs)
-  before_stands c d i j g = ⊎_elim (λ a. by_session a order) (λ b. by_vector b order) g.leads_to.by
+  -- ONE STEP LEADS ON in arbitration order
+  abbrev es : List Committed
+  es = arbitrated cs
+
+  es_apart : TidsApart es
+  es_apart = arbitrated_apart cs snap.names.decided_once
+
+  -- by a link: it was decided before
+  link_stands : (c d : Committed) → In c cs → In d cs → (c.begun.tid ≡ d.begun.tid → ⊥) → GoesOnFrom told.links d.begun c → StandsEarlier c d es
+  link_stands c d i j other g = stands_arbitrated c d cs first (not_preceding c d j (snap.snapshots.linked c d.begun i (snap.names.begun d j) g))
     where
-      order : (c ≡ g.by) ⊎ (c.begun.tid.seq < g.by.begun.tid.seq)
-      order = seq_order c g.by i g.here (sym g.session) g.number
+      first : StandsEarlier c d cs
+      first = ⊎_elim
+          (λ one. absurd (other (ap (λ (x : Committed). x.begun.tid) one)))
+          (λ two. ⊎_elim
+          (λ h. h)
+          (λ h. absurd (earlier_later (λ (x y : Committed). GoesOnFrom told.links x.begun y → ⊥) d c cs snap.links.first h g))
+          two)
+          (one_earlier c d cs i j)
 
-      of_session : c.begun.session ≡ d.begun.session → c.begun.tid.seq < d.begun.tid.seq → StandsEarlier c d (arbitrated cs)
-      of_session e less = stands_arbitrated c d cs (stands snap.names c d i j e less) (not_preceding c d j (covered c d i j e less))
+  step_stands : (c d : Committed) → In c cs → In d cs → Leads told.links c d.begun → StandsEarlier c d es
+  step_stands c d i j h = ⊎_elim (λ a. link_stands c d i j h.other a) (λ b. ⊎_elim by_session by_vector b) h.by
+    where
+      by_session : IsEarlier c d.begun → StandsEarlier c d es
+      by_session a = stands_arbitrated c d cs (stands snap.names c d i j a.0 a.1) (not_preceding c d j (covered c d i j a.0 a.1))
 
-      by_session : (g.by.begun.session ≡ d.begun.session) × (g.by.begun.tid.seq < d.begun.tid.seq) → (c ≡ g.by) ⊎ (c.begun.tid.seq < g.by.begun.tid.seq) → StandsEarlier c d (arbitrated cs)
-      by_session a (inl e) =
-          let k : c.begun.tid.seq ≡ g.by.begun.tid.seq = ap (λ (x : Committed). x.begun.tid.seq) e in
-          let less = a.1 in
-          of_session (sym g.session ∙ a.0) (omega arith)
-      by_session a (inr e) = let less = a.1 in of_session (sym g.session ∙ a.0) (omega arith)
+      by_vector : IsInSnapshot c d.begun → StandsEarlier c d es
+      by_vector a = precedes_stands c d es (arbitrated-sorted cs) (arbitrated_holds c cs i) (arbitrated_holds d cs j) (preceding c d j a.0 a.1)
 
-      first : precedes c d ≡ true → StandsEarlier c d (arbitrated cs)
-      first e = precedes_stands c d (arbitrated cs) (arbitrated-sorted cs) (arbitrated_holds c cs i) (arbitrated_holds d cs j) e
+  -- and so do more
+  pub reaches_stands : (n : ℕ) (c d : Committed) → In c cs → In d cs → reaches_within n told.links cs c d.begun ≡ true → StandsEarlier c d es
+  reaches_stands zero c d i j h = step_stands c d i j (leads-true told.links c d.begun h)
+  reaches_stands (suc n) c d i j h = ⊎_elim
+      (λ a. step_stands c d i j (leads-true told.links c d.begun a))
+      (λ (g : Through n told.links cs c d.begun).
+      let to_next = step_stands c g.next i g.here (leads-true told.links c g.next.begun g.step) in
+      stands_further c g.next d es es_apart to_next (reaches_stands n g.next d g.here j g.rest))
+      (last_or_more n told.links cs c d.begun h)
 
-      by_vector : (has_own_vector g.by ≡ true) × (at_most g.by.vector d.begun.snapshot ≡ true) → (c ≡ g.by) ⊎ (c.begun.tid.seq < g.by.begun.tid.seq) → StandsEarlier c d (arbitrated cs)
-      by_vector b (inl e) = first (preceding c d j (ap has_own_vector e ∙ b.0) (ap (λ (x : Committed). at_most x.vector d.begun.snapshot) e ∙ b.1))
-      by_vector b (inr e) =
-          let a = (sum_snapshot g.by g.here c.vector (covered c g.by i g.here (sym g.session) e)).1 b.0 in
-          let k = (sum_snapshot d j g.by.vector b.1).0 in
-          first (lex-first (sum_of c.vector) (sum_of d.vector) _ (omega arith))
+  -- so that there are fewer behind the next
+  pub fewer_behind : (c d : Committed) → In c cs → In d cs → leads told.links c d.begun ≡ true → behind d.begun.tid es < behind c.begun.tid es
+  fewer_behind c d i j h = behind-less c d es es_apart (step_stands c d i j (leads-true told.links c d.begun h))

@@ -23,13 +23,14 @@ use Rattle.us_exec.specs.Past.{is_before}
 use Rattle.us_exec.specs.Values.{updates_of, visible}
 use Rattle.us_history.specs.declared.LogTx.{LogTx}
 use Rattle.us_history.specs.Histories.{Begun, Committed, has_own_vector}
-use Rattle.us_history.specs.Arbitration.{ties, precedes, placed, arbitrated}
+use Rattle.us_history.specs.Arbitration.{ties, precedes}
 use Rattle.us_history.specs.Executions.{entry_of, entries_of}
 use Rattle.us_history.specs.States.{after_writes, after_log}
 use Rattle.us_snapshots.specs.Acts.{AllFits, Act, acts_of}
 use Rattle.us_snapshots.specs.Snapshots.{IsDecision}
 use Rattle.us_snapshots.proofs.Acts.{stamped_as, stamped, state_after-append, writes_applied, updates_in-append, updates-are}
-use Rattle.us_snapshots.proofs.Entries.{Sorted, in_placed}
+use Rattle.us_snapshots.proofs.Stands.{TidsApart}
+use Rattle.us_snapshots.proofs.Entries.{Sorted}
 
 -- UPDATES OF ONE TRANSACTION
 -- from an updating operation on the item
@@ -109,29 +110,6 @@ across_stand c d a b sc sd p apart =
 -- no two are of one update
 abbrev pub TagsApart : List (Stamped Op Effect) → Type 0
 TagsApart us = AllLater (λ (u v : Stamped Op Effect). tag_of u.stamp ≡ tag_of v.stamp → ⊥) us
-
--- transactions apart stay so in arbitration order
-abbrev pub TidsApart : List Committed → Type 0
-TidsApart cs = AllLater (λ (c d : Committed). c.begun.tid ≡ d.begun.tid → ⊥) cs
-
-placed_apart : (c : Committed) (ds : List Committed) → ((d : Committed) → In d ds → c.begun.tid ≡ d.begun.tid → ⊥) → TidsApart ds → TidsApart (placed c ds)
-placed_apart c [] new h = (tt, tt)
-placed_apart c (d ∷ ds) new h = on (precedes d c) (placed_apart c ds (λ x i. new x (inr i)) h.1)
-  where
-    first : (x : Committed) → In x (placed c ds) → d.begun.tid ≡ x.begun.tid → ⊥
-    first x i e = ⊎_elim
-        (λ s. new d (inl refl) (ap (λ (y : Committed). y.begun.tid) s ∙ sym e))
-        (λ j. all_in (λ (y : Committed). d.begun.tid ≡ y.begun.tid → ⊥) ds x h.0 j e)
-        (in_placed x c ds i)
-
-    on : (b : Bool) → TidsApart (placed c ds) → TidsApart (cond b (d ∷ placed c ds) (c ∷ d ∷ ds))
-    on true again = (all_from (λ (x : Committed). d.begun.tid ≡ x.begun.tid → ⊥) (placed c ds) first, again)
-    on false again = (all_from (λ (x : Committed). c.begun.tid ≡ x.begun.tid → ⊥) (d ∷ ds) new, h)
-
-pub arbitrated_apart : (cs : List Committed) → ((x : Committed) (cs : List Committed) → In x (arbitrated cs) → In x cs) → TidsApart cs → TidsApart (arbitrated cs)
-arbitrated_apart [] back h = tt
-arbitrated_apart (c ∷ cs) back h =
-    placed_apart c (arbitrated cs) (λ d i. all_in (λ (x : Committed). c.begun.tid ≡ x.begun.tid → ⊥) cs d h.0 (back d cs i)) (arbitrated_apart cs back h.1)
 
 module _ (spaces : List (ℕ × Kind)) (decided : List LogTx) where
   -- IN ARBITRATION ORDER

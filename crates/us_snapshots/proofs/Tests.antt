@@ -1,8 +1,10 @@
--- Tests of sessions, and of lists.
-use Rattle.std.proofs.Common.{◌≡◌, ◌⊎◌, inl, inr, List, [], ◌∷◌, Bool, true, false, ◌||◌, refl, sym, ap, ◌∙◌, arith, true≢false}
+-- Tests of sessions, of transactions, and of lists.
+use Rattle.std.proofs.Common.{◌≡◌, ◌⊎◌, inl, inr, List, [], ◌∷◌, Bool, true, false, ◌||◌, cond, refl, sym, ap, ◌∙◌, arith, true≢false}
 use Rattle.std.specs.List.{list_any}
 use Rattle.std.proofs.lemmas.Bool.{and_parts, eqb-true}
-use Rattle.us_kind.specs.Words.{In}
+use Rattle.us_kind.specs.Words.{In, tid_eq}
+use Rattle.us_kind.specs.declared.identity.Tid.{Tid}
+use Rattle.us_kind.proofs.TestLemmas.{tid_eq-true}
 use Rattle.us_exec.specs.declared.SessionName.{SessionName}
 use Rattle.us_exec.specs.Past.{session_eq}
 
@@ -41,3 +43,18 @@ pub found-any : {X : Type 0} (test : X → Bool) (xs : List X) (x : X) → In x 
 found-any test [] x h e = absurd h
 found-any test (y ∷ xs) x (inl s) e = or_left _ _ (ap test s ∙ e)
 found-any test (y ∷ xs) x (inr h) e = or_right _ _ (found-any test xs x h e)
+
+pub cond-first : {X : Type 0} (b : Bool) (x y : X) → b ≡ true → cond b x y ≡ x
+cond-first true x y e = refl
+cond-first false x y e = absurd (true≢false (sym e))
+
+pub cond-second : {X : Type 0} (b : Bool) (x y : X) → b ≡ false → cond b x y ≡ y
+cond-second true x y e = absurd (true≢false e)
+cond-second false x y e = refl
+
+pub apart-test : (a b : Tid) → (a ≡ b → ⊥) → tid_eq a b ≡ false
+apart-test a b h = on (tid_eq a b) refl
+  where
+    on : (t : Bool) → tid_eq a b ≡ t → t ≡ false
+    on true e = absurd (h (tid_eq-true a b e))
+    on false e = refl

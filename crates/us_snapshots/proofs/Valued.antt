@@ -1,6 +1,6 @@
 -- The answers of a transaction are the values of its operations: what it met of the decided ones is, but for the order, what
 -- it sees, and each update that it sees was prepared over those that it is after.
-use Rattle.std.proofs.Common.{◌≡◌, inl, inr, ⊎_elim, ℕ, ◌+◌, ◌<◌, ◌≤◌, List, [], ◌∷◌, ◌++◌, length, append_assoc, Bool, true, false, ◌&&◌, ◌||◌, refl, sym, ap, ◌∙◌, subst, arith, cond, true≢false, IsPermutation}
+use Rattle.std.proofs.Common.{◌≡◌, inl, inr, ⊎_elim, ℕ, ◌+◌, ◌<◌, List, [], ◌∷◌, ◌++◌, length, append_assoc, Bool, true, false, ◌&&◌, ◌||◌, refl, sym, ap, ◌∙◌, subst, arith, cond, true≢false, IsPermutation}
 use Rattle.std.specs.Prelude.{nat_lt}
 use Rattle.std.specs.List.{list_any}
 use Rattle.std.proofs.lemmas.Bool.{and_parts, and_from}
@@ -14,7 +14,7 @@ use Rattle.us_kind.proofs.ListLemmas.{in_back, in_front, in_either, in_filter, f
 use Rattle.us_kind.proofs.Members.{later_append, later_filter, later_map, later_weaker, Distinct, same_members}
 use Rattle.us_kind.proofs.TestLemmas.{tid_eq-true, tid_eq-same}
 use Rattle.us_base.specs.Vector.{at_most, sum_of}
-use Rattle.us_base.proofs.Vectors.{at_most-true, at_most-refl, at_most-trans, sum-at_most}
+use Rattle.us_base.proofs.Vectors.{at_most-true, at_most-trans, sum-at_most}
 use Rattle.us_value.specs.declared.item.Item.{Item}
 use Rattle.us_value.specs.declared.operation.Kind.{Kind}
 use Rattle.us_value.specs.declared.operation.Op.{Op}
@@ -36,14 +36,14 @@ use Rattle.us_history.specs.Executions.{entry_of, entries_of}
 use Rattle.us_history.specs.States.{own_sum, after_log, kind_for}
 use Rattle.us_snapshots.specs.Acts.{Fits, AllFits, Act, met_by, acts_of}
 use Rattle.us_snapshots.specs.Snapshots.{IsAnswered, AllAnswered, IsSnapshotHistory}
-use Rattle.us_snapshots.proofs.Tests.{or_right, any-found, found-any}
+use Rattle.us_snapshots.proofs.Tests.{or_right, any-found, found-any, cond-first, cond-second, apart-test}
 use Rattle.us_snapshots.proofs.Names.{decided_one}
 use Rattle.us_snapshots.proofs.Acts.{item_eq-true, state_after-append, act-updates, earlier, AreActs, are_acts, stamped_as, stamped, own_applied, updates_in-append, updates-are}
-use Rattle.us_snapshots.proofs.Entries.{in_arbitrated, arbitrated_holds, arbitrated-sorted}
+use Rattle.us_snapshots.proofs.Entries.{in_arbitrated, arbitrated_holds, arbitrated-sorted, arbitrated_apart}
 use Rattle.us_snapshots.proofs.Sources.{from_entry, in_entries}
-use Rattle.us_snapshots.proofs.Pasts.{leads_below, not_own, before_below, before-by, before-from}
-use Rattle.us_snapshots.proofs.Order.{session_below}
-use Rattle.us_snapshots.proofs.Seen.{OfActs, of_stamped, in_stamped, lex-less, stamped_ordered, TagsApart, acts_in, seen, SeenBy, of_seen, in_seen, arbitrated_apart, seen_ordered, seen_visible, log_updates, log_applied, of_log_updates, in_log_updates, log_updates_apart}
+use Rattle.us_snapshots.proofs.Pasts.{reaches_below, not_own, reached_by_own}
+use Rattle.us_snapshots.proofs.Reached.{before-by, before-from}
+use Rattle.us_snapshots.proofs.Seen.{OfActs, of_stamped, in_stamped, lex-less, stamped_ordered, TagsApart, acts_in, seen, SeenBy, of_seen, in_seen, seen_ordered, seen_visible, log_updates, log_applied, of_log_updates, in_log_updates, log_updates_apart}
 
 -- answered operations are of their items' kinds
 pub answered-fits : (spaces : List (ℕ × Kind)) (decided : List LogTx) (tid : Tid) (sn : List ℕ) (before as' : List Done) → AllAnswered spaces decided tid sn before as' → AllFits spaces as'
@@ -94,21 +94,6 @@ any_front test (x ∷ xs) ys h = on (test x) h (any_front test xs ys)
     on true h again = refl
     on false h again = again h
 
-cond-first : {X : Type 0} (b : Bool) (x y : X) → b ≡ true → cond b x y ≡ x
-cond-first true x y e = refl
-cond-first false x y e = absurd (true≢false (sym e))
-
-cond-second : {X : Type 0} (b : Bool) (x y : X) → b ≡ false → cond b x y ≡ y
-cond-second true x y e = absurd (true≢false e)
-cond-second false x y e = refl
-
-apart-test : (a b : Tid) → (a ≡ b → ⊥) → tid_eq a b ≡ false
-apart-test a b h = on (tid_eq a b) refl
-  where
-    on : (t : Bool) → tid_eq a b ≡ t → t ≡ false
-    on true e = absurd (h (tid_eq-true a b e))
-    on false e = refl
-
 -- THE SUM THAT AN UPDATE HAD for a transaction: its own ones aren't committed yet
 abbrev sum_for : Tid → Stamped Op Effect → ℕ
 sum_for tid v = cond (tid_eq v.stamp.tid tid) own_sum v.stamp.sum
@@ -149,14 +134,11 @@ module _ {spaces : List (ℕ × Kind)} {conflicts : List Done → List Done → 
   -- BEFORE AND BELOW
   below_kept : (c : Committed) (t : Begun) → In c cs → In t told.begun → has_own_vector c ≡ true → at_most c.vector t.snapshot ≡ true → keeps t c ≡ true
   below_kept c t i j st below =
-      before-from told c t (before_below snap c t i j st below)
+      before-from told c t i (reached_by_own snap c t i j st below)
 
   kept_below : (c : Committed) (t : Begun) → In c cs → In t told.begun → keeps t c ≡ true → at_most c.vector t.snapshot ≡ true
   kept_below c t i j k =
-      let b = before-by snap c t i j k in
-      at_most-trans c.vector b.by.vector t.snapshot
-      (session_below snap c b.by i b.here (sym b.session) b.number c.vector (at_most-refl c.vector))
-      (leads_below snap b.by t b.here j b.leads_to)
+      reaches_below snap (length cs) c t i j (before-by snap c t i j k)
 
   -- WHAT A TRANSACTION MEETS, in the order of the decided ones
   abbrev met : Begun → Item → List (Stamped Op Effect)
@@ -320,7 +302,7 @@ module _ {spaces : List (ℕ × Kind)} {conflicts : List Done → List Done → 
   all_ordered : (t : Begun) → In t told.begun → sum_of t.snapshot < own_sum → (item : Item) (ds : List Done) → AllFits spaces ds → AllLater StandsBefore (seen_of t item ++ own_of t item ds)
   all_ordered t j small item ds fits =
       later_append StandsBefore (seen_of t item) (own_of t item ds)
-      (seen_ordered spaces decided (keeps t) item es (λ c i. (are_in c (in_arbitrated c cs i)).ascending) (λ c i. updates c (in_arbitrated c cs i)) (arbitrated-sorted cs) (arbitrated_apart cs (λ x ds i. in_arbitrated x ds i) snap.names.decided_once))
+      (seen_ordered spaces decided (keeps t) item es (λ c i. (are_in c (in_arbitrated c cs i)).ascending) (λ c i. updates c (in_arbitrated c cs i)) (arbitrated-sorted cs) (arbitrated_apart cs snap.names.decided_once))
       (stamped_ordered own_sum t.tid item (acts_of spaces decided t.tid t.snapshot ds) (are_acts spaces decided t.tid t.snapshot ds fits).ascending)
       (seen_before_own t j small item ds)
 
@@ -464,7 +446,7 @@ module _ {spaces : List (ℕ × Kind)} {conflicts : List Done → List Done → 
       IsPermutation-append_left (own_of t item ds) (seen_of t item) (met t item)
       (same_members (seen_of t item) (met t item)
       (later_weaker StandsBefore (λ v w. v ≡ w → ⊥) (λ v w f e. f.apart (ap (λ (y : Stamped Op Effect). tag_of y.stamp) e)) (seen_of t item)
-      (seen_ordered spaces decided (keeps t) item es (λ c i. (are_in c (in_arbitrated c cs i)).ascending) (λ c i. updates c (in_arbitrated c cs i)) (arbitrated-sorted cs) (arbitrated_apart cs (λ x xs i. in_arbitrated x xs i) snap.names.decided_once)))
+      (seen_ordered spaces decided (keeps t) item es (λ c i. (are_in c (in_arbitrated c cs i)).ascending) (λ c i. updates c (in_arbitrated c cs i)) (arbitrated-sorted cs) (arbitrated_apart cs snap.names.decided_once)))
       (later_weaker (λ (v w : Stamped Op Effect). tag_of v.stamp ≡ tag_of w.stamp → ⊥) (λ v w. v ≡ w → ⊥) (λ v w f e. f (ap (λ (y : Stamped Op Effect). tag_of y.stamp) e)) (met t item) (met_apart t item))
       (λ v i. seen_met t j item v (seen_in t item v i))
       (λ v i. in_seen_of t item v (met_seen t j item v i)))

@@ -1,5 +1,5 @@
 -- What holds of every snapshot history.
-use Rattle.std.specs.Prelude.{◌≡◌, ℕ, List, Bool}
+use Rattle.std.specs.Prelude.{◌≡◌, ℕ, List, [], Bool}
 use Rattle.us_value.specs.declared.operation.Kind.{Kind}
 use Rattle.us_kind.specs.Words.{In}
 use Rattle.us_exec.specs.declared.SessionName.{SessionName}
@@ -8,7 +8,7 @@ use Rattle.us_exec.specs.Past.{count_in}
 use Rattle.us_exec.specs.WellFormed.{IsWellFormed}
 use Rattle.us_exec.specs.Consistency.{IsClosed, IsValued, IsOrdered, conflict}
 use Rattle.us_history.specs.declared.LogTx.{LogTx}
-use Rattle.us_history.specs.Histories.{Begun, Committed, History}
+use Rattle.us_history.specs.Histories.{Begun, History}
 use Rattle.us_history.specs.Pasts.{leads, count_of, past_of, direct_past}
 use Rattle.us_history.specs.Executions.{execution_by}
 use Rattle.us_snapshots.specs.Snapshots.{IsSnapshotHistory}
@@ -35,16 +35,16 @@ ExecutionsAreOrdered =
     (spaces : List (ℕ × Kind)) (declared : Done → Done → Bool) (h : History) (decided : List LogTx)
     → IsSnapshotHistory spaces (conflict declared) h decided → IsOrdered declared (execution_by past_of h)
 
--- of each session, a past's count is the greatest number of a transaction that leads to it in one step
+-- where no session goes on from another one: of each session, a past's count is the greatest number of a transaction that leads to it in one step
 abbrev pub CountsAreDirect : Type 0
 CountsAreDirect =
-    OfSnapshotHistories (λ h. (t : Begun) (s : SessionName) → In t h.begun
+    OfSnapshotHistories (λ h. h.links ≡ [] → (t : Begun) (s : SessionName) → In t h.begun
     → count_in s (past_of h t) ≡ count_of (λ c. leads h.links c t) s h.committed)
 
--- the pasts, which are defined by the closure of steps, are those counted in one step
+-- then the pasts, which are defined by the closure of steps, are those counted in one step
 abbrev pub ExecutionsAreDirect : Type 0
-ExecutionsAreDirect = OfSnapshotHistories (λ h. execution_by past_of h ≡ execution_by direct_past h)
+ExecutionsAreDirect = OfSnapshotHistories (λ h. h.links ≡ [] → execution_by past_of h ≡ execution_by direct_past h)
 
--- the vectors of a session ascend, and none of its own is in its own snapshot
+-- and the vectors of a session ascend, and none of its own is in its own snapshot
 abbrev pub HistoriesAscend : Type 0
-HistoriesAscend = OfSnapshotHistories Ascends
+HistoriesAscend = OfSnapshotHistories (λ h. h.links ≡ [] → Ascends h)

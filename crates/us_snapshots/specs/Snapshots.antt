@@ -1,5 +1,5 @@
 -- Snapshot histories: what a history, and a list of its decided transactions, must keep for its execution to be consistent.
-use Rattle.std.specs.Prelude.{◌≡◌, ◌⊎◌, ℕ, ◌<◌, List, [], ◌∷◌, ◌++◌, Bool, true, false}
+use Rattle.std.specs.Prelude.{◌≡◌, ◌⊎◌, ℕ, ◌<◌, ◌≤◌, List, [], ◌∷◌, ◌++◌, Bool, true, false}
 use Rattle.us_kind.specs.Words.{In}
 use Rattle.us_kind.specs.Updates.{AllLater}
 use Rattle.us_kind.specs.declared.identity.Tid.{Tid}
@@ -8,6 +8,7 @@ use Rattle.us_value.specs.declared.item.Write.{Write}
 use Rattle.us_value.specs.declared.operation.Kind.{Kind}
 use Rattle.us_value.specs.Values.{answered}
 use Rattle.us_exec.specs.declared.Done.{Done}
+use Rattle.us_exec.specs.declared.Link.{Link}
 use Rattle.us_exec.specs.WellFormed.{IsOfCoordinator}
 use Rattle.us_history.specs.declared.LogTx.{LogTx}
 use Rattle.us_history.specs.Histories.{Begun, Committed, History, AreNumbered, has_own_vector, ops_of}
@@ -32,11 +33,27 @@ pub record AreNamed (h : History) : Type 0 where
   pub in_order : AllLater IsBegunFirst h.committed
   pub numbered : AreNumbered h.committed
 
--- SNAPSHOTS: each is at least the vector of every transaction that its session committed before
-abbrev pub SnapshotsCover : History → Type 0
-SnapshotsCover h =
-    (c : Committed) (b : Begun) → In c h.committed → In b h.begun
-    → c.begun.session ≡ b.session → c.begun.tid.seq < b.tid.seq → at_most c.vector b.snapshot ≡ true
+-- LINKS
+-- the session of t goes on from c by a link, which reaches it
+pub record GoesOnFrom (links : List Link) (t : Begun) (c : Committed) : Type 0 where
+  pub link : Link
+  pub here : In link links
+  pub session : link.session ≡ t.session
+  pub from : link.from ≡ c.begun.session
+  pub count : c.number ≤ link.count
+
+-- SNAPSHOTS
+pub record SnapshotsCover (h : History) : Type 0 where
+  -- each is at least the vector of every transaction that its session committed before
+  pub earlier : (c : Committed) (b : Begun) → In c h.committed → In b h.begun
+      → c.begun.session ≡ b.session → c.begun.tid.seq < b.tid.seq → at_most c.vector b.snapshot ≡ true
+  -- and of every one that its session goes on from
+  pub linked : (c : Committed) (b : Begun) → In c h.committed → In b h.begun → GoesOnFrom h.links b c → at_most c.vector b.snapshot ≡ true
+
+-- a transaction isn't of a session that goes on from it, and is decided before those of such a session
+pub record LinksLeadOn (h : History) : Type 0 where
+  pub other : (c : Committed) (b : Begun) → In c h.committed → In b h.begun → GoesOnFrom h.links b c → c.begun.tid ≡ b.tid → ⊥
+  pub first : AllLater (λ (c d : Committed). GoesOnFrom h.links c.begun d → ⊥) h.committed
 
 -- VECTORS
 -- a vector is above another in some entry
@@ -97,9 +114,8 @@ AreCertified conflicts cs =
 -- A SNAPSHOT HISTORY, with a list of its decided transactions
 pub record IsSnapshotHistory (spaces : List (ℕ × Kind)) (conflicts : List Done → List Done → Bool) (h : History) (decided : List LogTx) : Type 0 where
   pub names : AreNamed h
+  pub links : LinksLeadOn h
   pub snapshots : SnapshotsCover h
-  -- no session goes on from another one yet
-  pub unlinked : h.links ≡ []
   pub vectors : (c : Committed) → In c h.committed → HasVector c
   pub decisions : AreDecided spaces h decided
   -- of running and abandoned transactions too
