@@ -7,8 +7,9 @@ use Rattle.us_model.specs.declared.event.Event.TheVariants as event
 use Rattle.us_model.specs.State.{Spaces}
 use Rattle.us_model.specs.Worlds.{World, Happening, Opens, Sends, Closes, happens, run, start, waits_of}
 use Rattle.us_model.specs.Executions.{history_of, execution_of}
-use Rattle.us_order.specs.Pasts.{direct_execution}
-use Rattle.us_order.specs.Ascending.{Ascends}
+use Rattle.us_history.specs.Pasts.{direct_past}
+use Rattle.us_history.specs.Executions.{execution_by}
+use Rattle.us_snapshots.specs.Ascending.{Ascends}
 use Rattle.us_order.specs.Laws.{HistoriesAscend, ExecutionsAreDirect, ExecutionsAreWellFormed, EveryRunIsPor}
 use Rattle.us_world.specs.declared.fault.WorldFault.{WorldFault}
 use Rattle.us_world.specs.declared.fault.WorldFault.TheVariants as fault
@@ -114,9 +115,9 @@ led-by-run (l ∷ ls) n first w (inr past) = let bad : Reaches w ≡ Passes l.nu
 pub lead_on : (spaces : Spaces) (lines : List Numbered) (k : Kept) → HasReached spaces lines k → LeadOn spaces lines
 lead_on spaces lines k so = record { world = so.world; leads = so.leads }
 
-report-same : (k : Kept) (w : World) → StandsFor k w → execution_of w.notes ≡ direct_execution (history_of w.notes) → report_of_kept k ≡ report_of w
+report-same : (k : Kept) (w : World) → StandsFor k w → execution_of w.notes ≡ execution_by direct_past (history_of w.notes) → report_of_kept k ≡ report_of w
 report-same k w h direct =
-    let execution : direct_execution k.history ≡ execution_of w.notes = ap direct_execution (sym h.history) ∙ sym direct in
+    let execution : execution_by direct_past k.history ≡ execution_of w.notes = ap (execution_by direct_past) (sym h.history) ∙ sym direct in
     let refused = ap (λ t. map reported t.refused) (sym h.history) in
     let waits = ap (λ sites. map waiting (waits_of sites)) (sym h.sites) in
     λ i. record { execution = execution i; refused = refused i; waiting = waits i }
@@ -124,8 +125,8 @@ report-same k w h direct =
 pub report_is : (spaces : Spaces) (lines : List Numbered) (k : Kept) (report : Report) → HasReached spaces lines k → ExecutionsAreDirect → report ≡ report_of_kept k → IsReportOf spaces lines report
 report_is spaces lines k report so direct is =
     let by = led-by-run lines 0 (start spaces) so.world so.leads in
-    let same : execution_of so.world.notes ≡ direct_execution (history_of so.world.notes) =
-    subst (λ (w : World). execution_of w.notes ≡ direct_execution (history_of w.notes)) (sym by.1) (direct spaces by.0)
+    let same : execution_of so.world.notes ≡ execution_by direct_past (history_of so.world.notes) =
+    subst (λ (w : World). execution_of w.notes ≡ execution_by direct_past (history_of w.notes)) (sym by.1) (direct spaces by.0)
     in
     record { world = so.world; leads = so.leads; is = is ∙ report-same k so.world so.stands same }
 

@@ -6,7 +6,8 @@ use Rattle.us_model.specs.declared.event.Event.TheVariants as event
 use Rattle.us_model.specs.State.{Site}
 use Rattle.us_model.specs.Sites.{Stepped, site_step}
 use Rattle.us_model.specs.Worlds.{World, is_delivered}
-use Rattle.us_model.specs.Executions.{History, noted_all, history_of}
+use Rattle.us_history.specs.Histories.{History}
+use Rattle.us_model.specs.Executions.{noted_all, history_of}
 use Rattle.us_world.specs.declared.world.Sent.{Sent}
 use Rattle.us_world.specs.declared.fault.WorldFault.{WorldFault}
 use Rattle.us_world.specs.declared.fault.WorldFault.TheVariants as fault

@@ -7,7 +7,8 @@ use Rattle.us_report.specs.declared.report.Waiting.{Waiting}
 use Rattle.us_model.specs.State.{Spaces}
 use Rattle.us_model.specs.Worlds.{World, Happening, Waits, waits_of, run, start}
 use Rattle.us_model.specs.Executions.{execution_of, refusals_of}
-use Rattle.us_order.specs.Pasts.{direct_execution}
+use Rattle.us_history.specs.Pasts.{direct_past}
+use Rattle.us_history.specs.Executions.{execution_by}
 use Rattle.us_world.specs.Direct.{reported}
 use Rattle.us_world.specs.Kept.{Kept, StandsFor}
 use Rattle.us_world.specs.Limits.{Performs, Begins, delivery, limit_of, Reaches, Passes, Leads}
@@ -70,7 +71,7 @@ report_of w = record { execution = execution_of w.notes; refused = map reported 
 
 -- as it is of what is kept
 abbrev pub report_of_kept : Kept → Report
-report_of_kept k = record { execution = direct_execution k.history; refused = map reported k.history.refused; waiting = map waiting (waits_of (k.site ∷ [])) }
+report_of_kept k = record { execution = execution_by direct_past k.history; refused = map reported k.history.refused; waiting = map waiting (waits_of (k.site ∷ [])) }
 
 -- the lines lead from the opening world with these spaces to this world
 abbrev pub LeadTo : Spaces → List Numbered → World → Type 0

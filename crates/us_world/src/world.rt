@@ -2,7 +2,7 @@
 ghost use Rattle.std.specs.Prelude.{◌≡◌, ◌+◌, ◌++◌, ◌<◌, ◌≤◌, ◌^◌, true, false, length, map, IfOk, IfErr, IfSome, IfNone, OnOk};
 ghost use Rattle.us_model.specs.Worlds.{start, Flushes};
 ghost use Rattle.us_model.specs.Executions.{noted_all};
-ghost use Rattle.us_order.specs.Ascending.{Ascends};
+ghost use Rattle.us_snapshots.specs.Ascending.{Ascends};
 ghost use Rattle.us_world.specs.Kept.{AllMarked, StandsFor, unmarked, after_event, after_at, passed_by, is_due, is_due_at, NoneDue, HasSkipped, HasCome, IsDelivered, LimitSays};
 ghost use Rattle.us_world.specs.Limits.{Delivers, is_opening, is_beginning, opened_in, begun_in};
 ghost use Rattle.us_world.specs.Lines.{waiting, IsBuilt, GoesBy, StoppedBy, IsDelivery, IsPerformed, IsStopped, report_of_kept};
