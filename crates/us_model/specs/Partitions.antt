@@ -3,25 +3,21 @@ use Rattle.std.specs.Prelude.{ℕ, ◌+◌, ◌-◌, ◌^◌, ◌%◌, List, [],
 use Rattle.std.specs.List.{list_any}
 use Rattle.us_kind.specs.Words.{tid_eq}
 use Rattle.us_kind.specs.declared.identity.Tid.{Tid}
-use Rattle.us_base.specs.Vector.{entry, at_most, with_entry, sum_of}
-use Rattle.us_value.specs.declared.item.Item.{Item}
+use Rattle.us_base.specs.Vector.{entry, at_most, with_entry}
 use Rattle.us_value.specs.declared.item.Write.{Write}
-use Rattle.us_value.specs.declared.operation.Kind.{Kind}
-use Rattle.us_value.specs.declared.operation.Kind.TheVariants.{Register}
 use Rattle.us_value.specs.declared.operation.Effect.{Effect}
 use Rattle.us_value.specs.declared.operation.Answer.{Answer}
 use Rattle.us_value.specs.declared.operation.State.{State}
-use Rattle.us_value.specs.Items.{item_eq}
-use Rattle.us_value.specs.Catalogs.{kind_in}
 use Rattle.us_model.specs.State.{Spaces}
 use Rattle.us_value.specs.Lengths.{answer_length, effect_length}
-use Rattle.us_value.specs.Values.{initial, updated, answered, prepared as prepared_effect}
+use Rattle.us_value.specs.Values.{answered, prepared as prepared_effect}
+use Rattle.us_history.specs.States.{state_at}
 use Rattle.us_peer_wire.specs.declared.message.Actor.{Actor}
 use Rattle.us_peer_wire.specs.declared.message.Packet.{Packet}
 use Rattle.us_peer_wire.specs.declared.message.Message.TheVariants.{Version as VersionMessage}
 use Rattle.us_peer_wire.specs.declared.message.Form.{Form}
 use Rattle.us_peer_wire.specs.declared.message.Form.TheVariants.{Answered, WritesFull, AnswerFull}
-use Rattle.us_model.specs.declared.partition.LogTx.{LogTx}
+use Rattle.us_history.specs.declared.LogTx.{LogTx}
 use Rattle.us_model.specs.declared.partition.PreparedTx.{PreparedTx}
 use Rattle.us_model.specs.declared.partition.Get.{Get}
 use Rattle.us_model.specs.State.{Partition}
@@ -92,37 +88,9 @@ commit_at me p vector (Some i) = commit_one me p vector i (slice_get p.prepared 
 abbrev pub commit : Actor → Partition → Tid → List ℕ → Partition
 commit me p tid vector = commit_at me p vector (position (is_of tid) p.prepared)
 
--- THE VERSION OF AN ITEM: the log's writes on it with vectors at most the snapshot, applied under their stamps
-abbrev pub after_writes : Item → ℕ → Tid → State → List Write → State
-after_writes item sum tid s [] = s
-after_writes item sum tid s (w ∷ ws) =
-    after_writes item sum tid
-    (if item_eq w.item item then updated s w.effect (record { sum = sum; tid = tid; place = w.place }) else s) ws
-
-abbrev pub after_log : Item → List ℕ → State → List LogTx → State
-after_log item snapshot s [] = s
-after_log item snapshot s (t ∷ ts) =
-    after_log item snapshot (if at_most t.vector snapshot then after_writes item (sum_of t.vector) t.tid s t.writes else s) ts
-
--- the sum under which a transaction's own effects count: above every other
-abbrev pub own_sum : ℕ
-own_sum = 340282366920938463463374607431768211455
-
--- then the transaction's own effects
-abbrev pub after_own : Tid → State → List (ℕ × Effect) → State
-after_own tid s [] = s
-after_own tid s (e ∷ es) = after_own tid (updated s e.1 (record { sum = own_sum; tid = tid; place = e.0 })) es
-
--- the kind of a space's items. A space that isn't configured has no items, so that any will do
-abbrev pub or_register : Option Kind → Kind
-or_register None = Register
-or_register (Some kind) = kind
-
-abbrev pub kind_for : Spaces → ℕ → Kind
-kind_for spaces space = or_register (kind_in spaces space)
-
+-- WHAT A QUESTION'S OPERATION MEETS: the item's version in the snapshot, and then the transaction's own effects on it
 unfoldable pub state_for : Spaces → List LogTx → Get → State
-state_for spaces log g = after_own g.tid (after_log g.item g.snapshot (initial (kind_for spaces g.item.space)) log) g.own
+state_for spaces log g = state_at spaces log g.tid g.snapshot g.item g.own
 
 -- WAKE, the partition's part: the questions whose snapshot is known are answered
 abbrev pub may_answer : List ℕ → Get → Bool

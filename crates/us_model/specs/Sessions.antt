@@ -12,10 +12,10 @@ use Rattle.us_value.specs.declared.operation.Kind.{Kind}
 use Rattle.us_value.specs.declared.operation.Op.{Op}
 use Rattle.us_value.specs.declared.operation.Effect.{Effect}
 use Rattle.us_value.specs.declared.operation.Answer.{Answer}
-use Rattle.us_value.specs.Items.{item_eq}
 use Rattle.us_value.specs.Values.{op_fits}
 use Rattle.us_value.specs.Catalogs.{kind_in}
 use Rattle.us_value.specs.Lengths.{write_length}
+use Rattle.us_history.specs.States.{own_effects}
 use Rattle.us_model.specs.State.{Spaces}
 use Rattle.us_exec.specs.declared.SessionName.{SessionName}
 use Rattle.us_wire.specs.Frames.{Reader, Frames, frames_of, fed}
@@ -113,11 +113,6 @@ begun d s at =
     }
 
 -- PERFORM
--- the transaction's own earlier effects on an item
-abbrev pub own_effects : Item → List Write → List (ℕ × Effect)
-own_effects item [] = []
-own_effects item (w ∷ ws) = if item_eq w.item item then (w.place, w.effect) ∷ own_effects item ws else own_effects item ws
-
 abbrev pub asked_for : Desk → Session → ℕ → Transaction → Item → Op → Acted
 asked_for d s at tx item op =
     record {

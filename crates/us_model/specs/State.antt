@@ -2,7 +2,7 @@
 use Rattle.std.specs.Prelude.{ℕ, List}
 use Rattle.us_kind.specs.declared.identity.Tid.{Tid}
 use Rattle.us_value.specs.declared.operation.Kind.{Kind}
-use Rattle.us_model.specs.declared.partition.LogTx.{LogTx}
+use Rattle.us_history.specs.declared.LogTx.{LogTx}
 use Rattle.us_model.specs.declared.partition.PreparedTx.{PreparedTx}
 use Rattle.us_model.specs.declared.partition.Get.{Get}
 use Rattle.us_model.specs.declared.coordinator.Session.{Session}

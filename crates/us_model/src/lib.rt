@@ -10,5 +10,6 @@ mod settings;
 pub use coordinator::{Ask, Desk, PreparedAt, Session, Transaction, Waiting};
 pub use event::{ClientOut, Event, Note, Outputs};
 pub use example::worked_example;
-pub use partition::{Get, LogTx, PreparedTx};
+pub use partition::{Get, PreparedTx};
 pub use settings::Settings;
+pub use us_history::LogTx;

@@ -2,15 +2,6 @@ use us_base::Vector;
 use us_kind::{Items, Tid};
 use us_value::{Effect, Item, Op, Write};
 
-/// A transaction of a partition's log, with its commit vector and its writes there.
-#[derive(Drop)]
-pub struct LogTx {
-    pub tid: Tid,
-    pub strong: bool,
-    pub vector: Vector,
-    pub writes: Items<Write>,
-}
-
 /// A transaction that a partition has prepared under a timestamp and that isn't committed.
 #[derive(Drop)]
 pub struct PreparedTx {

@@ -5,15 +5,15 @@ use Rattle.us_kind.specs.Words.{In}
 use Rattle.us_kind.proofs.ListLemmas.{in_grown, GoesOn}
 use Rattle.us_exec.specs.declared.SessionName.{SessionName}
 use Rattle.us_peer_wire.specs.declared.message.Message.{Message}
-use Rattle.us_model.specs.declared.partition.LogTx.{LogTx}
+use Rattle.us_history.specs.declared.LogTx.{LogTx}
 use Rattle.us_model.specs.declared.coordinator.Transaction.{Transaction}
 use Rattle.us_model.specs.declared.coordinator.Ask.{Ask}
 use Rattle.us_model.specs.declared.coordinator.Waiting.{Waiting}
 use Rattle.us_model.specs.declared.coordinator.Session.{Session}
 use Rattle.us_model.specs.declared.coordinator.Desk.{Desk}
 use Rattle.us_model.specs.State.{Partition, Spaces}
+use Rattle.us_history.specs.Histories.{Begun}
 use Rattle.us_model.specs.Sessions.{Acted, AllActed, each_session}
-use Rattle.us_model.specs.Executions.{Begun}
 use Rattle.us_order.proofs.Ledgers.{Ledger, Stands}
 use Rattle.us_order.proofs.Facts.{PartitionFacts, SharedFacts, SessionFacts, Grows, session_frame}
 use Rattle.us_order.proofs.Sessions.{Facts, Kept}

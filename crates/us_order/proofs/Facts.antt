@@ -17,7 +17,7 @@ use Rattle.us_exec.specs.declared.Done.{Done}
 use Rattle.us_peer_wire.specs.declared.message.Message.{Message}
 use Rattle.us_peer_wire.specs.declared.message.Message.TheVariants as message
 use Rattle.us_peer_wire.specs.declared.message.Form.{Form}
-use Rattle.us_model.specs.declared.partition.LogTx.{LogTx}
+use Rattle.us_history.specs.declared.LogTx.{LogTx}
 use Rattle.us_model.specs.declared.partition.PreparedTx.{PreparedTx}
 use Rattle.us_model.specs.declared.partition.Get.{Get}
 use Rattle.us_model.specs.declared.coordinator.Transaction.{Transaction}
@@ -25,13 +25,16 @@ use Rattle.us_model.specs.declared.coordinator.Ask.{Ask}
 use Rattle.us_model.specs.declared.coordinator.Waiting.{Waiting}
 use Rattle.us_model.specs.declared.coordinator.Waiting.TheVariants as waits
 use Rattle.us_model.specs.State.{Partition, Spaces}
+use Rattle.us_history.specs.Histories.{Begun, Performed, Committed, History, ops_of, committed_in, has_own_vector}
+use Rattle.us_history.specs.States.{own_effects, state_at}
+use Rattle.us_snapshots.specs.Snapshots.{writes_of, IsDecision}
+use Rattle.us_snapshots.proofs.Stands.{StandsEarlier}
+use Rattle.us_snapshots.specs.Acts.{Fits, AllFits, writes_in, met_by, acts_of}
+use Rattle.us_snapshots.proofs.Acts.{HasWrites}
 use Rattle.us_model.specs.Partitions.{known, form_for}
-use Rattle.us_model.specs.Sessions.{own_effects}
-use Rattle.us_model.specs.Executions.{Begun, Performed, Committed, History, ops_of, committed_in, is_stamped}
 use Rattle.us_order.proofs.Ledgers.{me, name, Ledger}
 use Rattle.us_order.proofs.Partition.{PartitionOk}
 use Rattle.us_order.proofs.Queue.{Ascends}
-use Rattle.us_order.proofs.Acts.{state_at, Fits, AllFits, writes_in, HasWrites, met_by, acts_of}
 
 -- THE OPERATIONS THAT WERE TOLD OF A TRANSACTION
 pub ops_of-append : (tid : Tid) (xs ys : List Performed) → ops_of tid (xs ++ ys) ≡ ops_of tid xs ++ ops_of tid ys
@@ -108,7 +111,7 @@ pub record DecidedAt (cs : List Committed) (tid : Tid) (vector : List ℕ) : Typ
   pub here : In decision cs
   pub tid_is : decision.begun.tid ≡ tid
   pub vector_is : decision.vector ≡ vector
-  pub has : is_stamped decision ≡ true
+  pub has : has_own_vector decision ≡ true
 
 pub record Promised (p : Partition) (cs : List Committed) (tid : Tid) (ts : ℕ) : Type 0 where
   pub done : In tid p.done
@@ -142,17 +145,6 @@ pub record PreparedFacts (done_here : List Tid) (ms : List Message) (q : Prepare
   pub told : In (message.Prepared q.tid q.ts) ms
   pub above : entry q.snapshot 1 < q.ts
 
--- the writes of a decided transaction, as this log has it
-abbrev pub writes_of : Spaces → List LogTx → Committed → List Write
-writes_of spaces log c = writes_in (acts_of spaces log c.begun.tid c.begun.snapshot c.ops)
-
-pub record LogFacts (spaces : Spaces) (log : List LogTx) (cs : List Committed) (e : LogTx) : Type 0 where
-  pub decision : Committed
-  pub here : In decision cs
-  pub tid_is : decision.begun.tid ≡ e.tid
-  pub vector_is : decision.vector ≡ e.vector
-  pub writes_is : writes_of spaces log decision ≡ e.writes
-
 pub record InLog (log : List LogTx) (c : Committed) : Type 0 where
   pub entry_of : LogTx
   pub here : In entry_of log
@@ -168,10 +160,10 @@ pub record DecidedFacts (spaces : Spaces) (p : Partition) (l : Ledger) (c : Comm
   pub begun : In c.begun l.history.begun
   pub ops : c.ops ≡ ops_of c.begun.tid l.history.performed
   pub grows : at_most c.begun.snapshot c.vector ≡ true
-  pub same : (is_stamped c ≡ true → ⊥) → c.vector ≡ c.begun.snapshot
-  pub above : is_stamped c ≡ true → entry c.begun.snapshot 1 < entry c.vector 1
-  pub asked : is_stamped c ≡ true → In (message.Prepare c.begun.tid c.begun.snapshot (writes_of spaces p.log c)) l.messages
-  pub kept : is_stamped c ≡ true → StillPrepared p.prepared c.begun.tid (entry c.vector 1) ⊎ InLog p.log c
+  pub same : (has_own_vector c ≡ true → ⊥) → c.vector ≡ c.begun.snapshot
+  pub above : has_own_vector c ≡ true → entry c.begun.snapshot 1 < entry c.vector 1
+  pub asked : has_own_vector c ≡ true → In (message.Prepare c.begun.tid c.begun.snapshot (writes_of spaces p.log c)) l.messages
+  pub kept : has_own_vector c ≡ true → StillPrepared p.prepared c.begun.tid (entry c.vector 1) ⊎ InLog p.log c
   pub small : entry c.vector 1 ≤ 2 ^ 62
   pub numbered : Numbered l.history.committed c
 
@@ -180,7 +172,7 @@ pub record PartitionFacts (spaces : Spaces) (p : Partition) (l : Ledger) : Type 
   pub messages : (m : Message) → In m l.messages → IsTrue spaces p l m
   pub parked : (g : Get) → In g p.parked → In (message.Get g.tid g.place g.at g.snapshot g.item g.op g.own) l.messages
   pub prepared : (q : PreparedTx) → In q p.prepared → PreparedFacts p.done l.messages q
-  pub log : (e : LogTx) → In e p.log → LogFacts spaces p.log l.history.committed e
+  pub log : (e : LogTx) → In e p.log → IsDecision spaces p.log l.history.committed e
   pub decided : (c : Committed) → In c l.history.committed → DecidedFacts spaces p l c
   pub answers : (b : Begun) → In b l.history.begun → AllTrue spaces p b.tid b.snapshot [] (ops_of b.tid l.history.performed)
 
@@ -207,30 +199,6 @@ once_push ms y old new m m' i j k =
     (λ (a : In m ms). ⊎_elim (λ (b : In m' ms). old m m' a b k) (λ (e : y ≡ m'). absurd (new m a (subst (SameKey m) (sym e) k))) (in_split m' ms y j))
     (λ (d : y ≡ m). ⊎_elim (λ (b : In m' ms). absurd (new m' b (SameKey-sym y m' (subst (λ x. SameKey x m') (sym d) k)))) (λ (e : y ≡ m'). sym d ∙ e) (in_split m' ms y j))
     (in_split m ms y i)
-
--- c stands earlier than d
-abbrev pub StandsEarlier : Committed → Committed → List Committed → Type 0
-StandsEarlier c d [] = ⊥
-StandsEarlier c d (x ∷ xs) = ((x ≡ c) × In d xs) ⊎ StandsEarlier c d xs
-
-pub earlier_front : (c d : Committed) (xs ys : List Committed) → StandsEarlier c d xs → StandsEarlier c d (xs ++ ys)
-earlier_front c d [] ys h = absurd h
-earlier_front c d (x ∷ xs) ys (inl e) = inl (e.0, on xs e.1)
-  where
-    on : (xs : List Committed) → In d xs → In d (xs ++ ys)
-    on [] h = absurd h
-    on (x ∷ xs) (inl e) = inl e
-    on (x ∷ xs) (inr h) = inr (on xs h)
-earlier_front c d (x ∷ xs) ys (inr h) = inr (earlier_front c d xs ys h)
-
-pub earlier_push : (c d : Committed) (xs : List Committed) → In c xs → StandsEarlier c d (xs ++ d ∷ [])
-earlier_push c d [] h = absurd h
-earlier_push c d (x ∷ xs) (inl e) = inl (e, on xs)
-  where
-    on : (xs : List Committed) → In d (xs ++ d ∷ [])
-    on [] = inl refl
-    on (x ∷ xs) = inr (on xs)
-earlier_push c d (x ∷ xs) (inr h) = inr (earlier_push c d xs h)
 
 pub record BegunForm (last : ℕ) (b : Begun) : Type 0 where
   pub site : b.tid.site ≡ 1

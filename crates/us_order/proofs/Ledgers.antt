@@ -11,9 +11,10 @@ use Rattle.us_model.specs.declared.event.ClientOut.{ClientOut}
 use Rattle.us_model.specs.declared.coordinator.Desk.{Desk}
 use Rattle.us_model.specs.declared.coordinator.Session.{Session}
 use Rattle.us_model.specs.State.{Partition}
+use Rattle.us_history.specs.Histories.{History}
 use Rattle.us_model.specs.Partitions.{known}
 use Rattle.us_model.specs.Sessions.{with_packets, with_client, with_note, tell, reply_out}
-use Rattle.us_model.specs.Executions.{History, noted, noted_all}
+use Rattle.us_model.specs.Executions.{noted, noted_all}
 
 -- the only actor of a partition
 abbrev pub me : Actor

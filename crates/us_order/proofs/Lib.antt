@@ -1,6 +1,6 @@
 pub mod Ledgers
 pub mod Partition
-pub mod Acts
+pub mod Writes
 pub mod OnePartition
 pub mod Queue
 pub mod Facts
@@ -9,13 +9,7 @@ pub mod Runs
 pub mod Each
 pub mod Moves
 pub mod World
-pub mod Pasts
-pub mod Entries
-pub mod Closed
-pub mod Direct
-pub mod Ascending
 pub mod Numbers
-pub mod Formed
-pub mod Seen
-pub mod Valued
+pub mod Decided
+pub mod Snapshots
 pub mod Por

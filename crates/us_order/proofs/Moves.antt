@@ -14,20 +14,21 @@ use Rattle.us_value.specs.Values.{initial, answered, prepared as prepared_effect
 use Rattle.us_exec.specs.declared.Done.{Done}
 use Rattle.us_peer_wire.specs.declared.message.Message.{Message}
 use Rattle.us_peer_wire.specs.declared.message.Message.TheVariants as message
-use Rattle.us_model.specs.declared.partition.LogTx.{LogTx}
+use Rattle.us_history.specs.declared.LogTx.{LogTx}
 use Rattle.us_model.specs.declared.partition.PreparedTx.{PreparedTx}
 use Rattle.us_model.specs.declared.partition.Get.{Get}
 use Rattle.us_model.specs.declared.coordinator.Transaction.{Transaction}
 use Rattle.us_model.specs.declared.coordinator.Ask.{Ask}
 use Rattle.us_model.specs.declared.coordinator.Waiting.{Waiting}
 use Rattle.us_model.specs.State.{Partition, Spaces}
-use Rattle.us_model.specs.Partitions.{known, get, contains_tid, prepared, timestamp_for, committed, is_of, after_own, kind_for, state_for, may_answer, form_for, versions, version_for, still_parked}
-use Rattle.us_model.specs.Sessions.{own_effects}
-use Rattle.us_model.specs.Executions.{Committed, is_stamped, ops_of}
+use Rattle.us_history.specs.Histories.{Committed, has_own_vector, ops_of}
+use Rattle.us_history.specs.States.{after_own, kind_for, own_effects, state_at}
+use Rattle.us_snapshots.specs.Acts.{Act, act_of, writes_in, met_by, effect_at, acts_from, acts_of}
+use Rattle.us_snapshots.specs.Snapshots.{writes_of, IsDecision}
+use Rattle.us_model.specs.Partitions.{known, get, contains_tid, prepared, timestamp_for, committed, is_of, state_for, may_answer, form_for, versions, version_for, still_parked}
 use Rattle.us_order.proofs.Ledgers.{me, Ledger, messages_of, with_messages}
 use Rattle.us_order.proofs.Partition.{PartitionOk, Later, later_same, horizon, read_later, get_keeps, get_later, prepared_keeps, prepared_later, committed_keeps, committed_later, removed_in, in_removed, next_timestamp-above}
-use Rattle.us_order.proofs.Acts.{state_at, Act, act_of, writes_in, met_by, effect_at, acts_from, acts_of}
-use Rattle.us_order.proofs.Facts.{writes_of, AllTrue, StillPrepared, IsDecided, DecidedAt, IsTrue, PreparedFacts, LogFacts, InLog, PartitionFacts, SharedFacts, SameKey, SameKey-sym, once_push, waits-later, begun_as, RunningFacts, SessionFacts}
+use Rattle.us_order.proofs.Facts.{AllTrue, StillPrepared, IsDecided, DecidedAt, IsTrue, PreparedFacts, InLog, PartitionFacts, SharedFacts, SameKey, SameKey-sym, once_push, waits-later, begun_as, RunningFacts, SessionFacts}
 
 pub known-later : (p p' : Partition) (v : List ℕ) → Later p p' → at_most v (known me p) ≡ true → at_most v (known me p') ≡ true
 known-later p p' v l h = at_most-from v (known me p') at
@@ -62,7 +63,7 @@ pub acts_true-later : (spaces : Spaces) (p p' : Partition) (tid : Tid) (sn : Lis
 acts_true-later spaces p p' tid sn [] l h = refl
 acts_true-later spaces p p' tid sn (d ∷ ds) l h = acts-later spaces p p' tid sn 1 [] (d ∷ ds) l h.0.is_known
 
-writes_of-later : (spaces : Spaces) (p p' : Partition) (l : Ledger) (c : Committed) → Later p p' → PartitionFacts spaces p l → In c l.history.committed → writes_of spaces p.log c ≡ writes_of spaces p'.log c
+pub writes_of-later : (spaces : Spaces) (p p' : Partition) (l : Ledger) (c : Committed) → Later p p' → PartitionFacts spaces p l → In c l.history.committed → writes_of spaces p.log c ≡ writes_of spaces p'.log c
 writes_of-later spaces p p' l c later h i =
     let f = h.decided c i in
     ap writes_in (acts_true-later spaces p p' c.begun.tid c.begun.snapshot c.ops later (subst (AllTrue spaces p c.begun.tid c.begun.snapshot []) (sym f.ops) (h.answers c.begun f.begun)))
@@ -82,9 +83,9 @@ pub record Moves (spaces : Spaces) (p p' : Partition) (l : Ledger) (ms : List Me
   pub true' : (m : Message) → In m ms → IsTrue spaces p' (with_messages l ms) m
   pub parked : (g : Get) → In g p'.parked → In (message.Get g.tid g.place g.at g.snapshot g.item g.op g.own) l.messages
   pub prepared : (q : PreparedTx) → In q p'.prepared → PreparedFacts p'.done (l.messages ++ ms) q
-  pub log : (e : LogTx) → In e p'.log → LogFacts spaces p'.log l.history.committed e
+  pub log : (e : LogTx) → In e p'.log → IsDecision spaces p'.log l.history.committed e
   pub still : (tid : Tid) (ts : ℕ) → StillPrepared p.prepared tid ts → StillPrepared p'.prepared tid ts ⊎ IsDecided l.history.committed tid
-  pub kept : (c : Committed) → In c l.history.committed → is_stamped c ≡ true → StillPrepared p.prepared c.begun.tid (entry c.vector 1) ⊎ InLog p.log c → StillPrepared p'.prepared c.begun.tid (entry c.vector 1) ⊎ InLog p'.log c
+  pub kept : (c : Committed) → In c l.history.committed → has_own_vector c ≡ true → StillPrepared p.prepared c.begun.tid (entry c.vector 1) ⊎ InLog p.log c → StillPrepared p'.prepared c.begun.tid (entry c.vector 1) ⊎ InLog p'.log c
 
 is_true-moves : (spaces : Spaces) (p p' : Partition) (l : Ledger) (ms : List Message) (m : Message) → Moves spaces p p' l ms → IsTrue spaces p l m → IsTrue spaces p' (with_messages l ms) m
 is_true-moves spaces p p' l ms (message.Get tid place at sn i o own) v h = h
@@ -310,7 +311,7 @@ commit_moves spaces p l tid v i q h all asked got here of le =
       true' = λ m j. absurd j;
       parked = h.parked;
       prepared = λ r j. prepared_more p.done l.messages [] r (h.prepared r (in_removed p.prepared i r j));
-      log = in_push (LogFacts spaces (committed me p v i q).log l.history.committed) p.log e
+      log = in_push (IsDecision spaces (committed me p v i q).log l.history.committed) p.log e
           (λ x j. let g = h.log x j in record { decision = g.decision; here = g.here; tid_is = g.tid_is; vector_is = g.vector_is; writes_is = sym (writes_of-later spaces p (committed me p v i q) l g.decision later h g.here) ∙ g.writes_is })
           (record { decision = d.decision; here = d.here; tid_is = sym c_is; vector_is = d.vector_is; writes_is = sym (writes_is ∙ writes_later) });
       still = λ t n s. still_of t n s d c_is (removed_in p.prepared i s.entry_of q got s.here);

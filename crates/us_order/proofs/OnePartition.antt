@@ -12,7 +12,7 @@ use Rattle.us_model.specs.declared.coordinator.Waiting.TheVariants as waits
 use Rattle.us_model.specs.declared.coordinator.Session.{Session}
 use Rattle.us_model.specs.declared.coordinator.Desk.{Desk}
 use Rattle.us_model.specs.Sessions.{Acted, with_packets, to_partition, home, is_kept_by, writes_on, is_written, partitions_written, prepares, commits, sent_out, ended, decided}
-use Rattle.us_order.proofs.Acts.{HasWrites}
+use Rattle.us_snapshots.proofs.Acts.{HasWrites}
 
 placed_one : (space : ℕ) (id : List ℕ) → place_of 1 space id ≡ 1
 placed_one space id = omega arith

@@ -16,11 +16,12 @@ use Rattle.us_base.proofs.Vectors.{at_most-true, entry-with_same}
 use Rattle.us_value.specs.declared.item.Item.{Item}
 use Rattle.us_value.specs.declared.item.Write.{Write}
 use Rattle.us_value.specs.declared.operation.State.{State}
-use Rattle.us_model.specs.declared.partition.LogTx.{LogTx}
+use Rattle.us_history.specs.declared.LogTx.{LogTx}
 use Rattle.us_model.specs.declared.partition.PreparedTx.{PreparedTx}
 use Rattle.us_model.specs.declared.partition.Get.{Get}
 use Rattle.us_model.specs.State.{Partition}
-use Rattle.us_model.specs.Partitions.{own_known, known, least_ts, next_timestamp, timestamp_for, get, prepared, committed, commit, commit_at, commit_one, is_of, after_log, after_writes}
+use Rattle.us_history.specs.States.{after_log, after_writes}
+use Rattle.us_model.specs.Partitions.{own_known, known, least_ts, next_timestamp, timestamp_for, get, prepared, committed, commit, commit_at, commit_one, is_of}
 use Rattle.us_order.proofs.Ledgers.{me}
 
 pub next_timestamp-above : (r n : ℕ) → n < next_timestamp r n

@@ -7,7 +7,9 @@ use Rattle.std.proofs.lemmas.Bool.Decides.{nat_tests}
 use Rattle.us_kind.specs.Words.{In, tid_eq}
 use Rattle.us_kind.proofs.ListLemmas.{goes_nowhere}
 use Rattle.us_peer_wire.specs.declared.message.Actor.{Actor}
-use Rattle.us_model.specs.Executions.{Refusal}
+use Rattle.us_history.specs.Histories.{Refusal}
+use Rattle.us_history.specs.States.{or_register}
+use Rattle.us_snapshots.proofs.Acts.{HasWrites}
 use Rattle.us_kind.specs.declared.identity.Tid.{Tid}
 use Rattle.us_kind.proofs.TestLemmas.{tid_eq-true}
 use Rattle.us_base.specs.Vector.{with_entry}
@@ -27,7 +29,7 @@ use Rattle.us_peer_wire.specs.declared.message.Version.{Version}
 use Rattle.us_peer_wire.specs.declared.message.Form.{Form}
 use Rattle.us_peer_wire.specs.declared.message.Form.TheVariants as form
 use Rattle.us_model.specs.declared.event.Note.TheVariants as note
-use Rattle.us_model.specs.declared.partition.LogTx.{LogTx}
+use Rattle.us_history.specs.declared.LogTx.{LogTx}
 use Rattle.us_model.specs.declared.coordinator.Ask.{Ask}
 use Rattle.us_model.specs.declared.coordinator.Transaction.{Transaction}
 use Rattle.us_model.specs.declared.coordinator.PreparedAt.{PreparedAt}
@@ -36,10 +38,8 @@ use Rattle.us_model.specs.declared.coordinator.Waiting.TheVariants as waits
 use Rattle.us_model.specs.declared.coordinator.Session.{Session}
 use Rattle.us_model.specs.declared.coordinator.Desk.{Desk}
 use Rattle.us_model.specs.State.{Partition, Spaces}
-use Rattle.us_model.specs.Partitions.{or_register}
 use Rattle.us_model.specs.Sessions.{Acted, stays, with_client, with_note, tell, reply_out, session_name, refused, objection, performed, begin, perform, commit_causal, abandon, abandoned, committing, request, is_built, is_nothing, run_asks, run_session, closed, left, closes_in, close, counted, malformed, unanswered, joins, framed_in, framed, take_frames, bytes, write_of, writes_length, recorded, turned_down, recorded_by, is_awaited, version_in, version, without, told_all, prepared_in, prepared, decided}
 use Rattle.us_order.proofs.Ledgers.{Ledger, with_told, Stands, stands_note, stands_client, stands_tell}
-use Rattle.us_order.proofs.Acts.{HasWrites}
 use Rattle.us_order.proofs.Queue.{Ascends, ascends-bounds, ascends-below, ascends-above, ascends-push}
 use Rattle.us_order.proofs.Facts.{SharedFacts, Waits, waits-later, RunningFacts, SessionFacts, Grows}
 use Rattle.us_order.proofs.Sessions.{Facts, IsNext, Kept, kept_further, kept_same, part_grows, asked_for_keeps, sent_out_keeps, begun_keeps, ends_keeps, decided_keeps, recorded_keeps}

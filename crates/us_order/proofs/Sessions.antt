@@ -24,7 +24,7 @@ use Rattle.us_peer_wire.specs.declared.message.Message.TheVariants as message
 use Rattle.us_peer_wire.specs.declared.message.Version.{Version}
 use Rattle.us_peer_wire.specs.declared.message.Form.TheVariants as form
 use Rattle.us_model.specs.declared.event.Note.TheVariants as note
-use Rattle.us_model.specs.declared.partition.LogTx.{LogTx}
+use Rattle.us_history.specs.declared.LogTx.{LogTx}
 use Rattle.us_model.specs.declared.coordinator.Transaction.{Transaction}
 use Rattle.us_model.specs.declared.coordinator.Ask.{Ask}
 use Rattle.us_model.specs.declared.coordinator.Waiting.{Waiting}
@@ -32,15 +32,21 @@ use Rattle.us_model.specs.declared.coordinator.Waiting.TheVariants as waits
 use Rattle.us_model.specs.declared.coordinator.Session.{Session}
 use Rattle.us_model.specs.declared.coordinator.Desk.{Desk}
 use Rattle.us_model.specs.State.{Partition, Spaces}
-use Rattle.us_model.specs.Partitions.{known, kind_for, is_too_long, form_for}
-use Rattle.us_model.specs.Sessions.{Acted, with_packets, with_note, tell, to_partition, home, next_tid, begun_transaction, begun, own_effects, asked_for, ended, sent_out, write_of, recorded, decided, session_name}
-use Rattle.us_model.specs.Executions.{Begun, Performed, Committed, History, begun_of, ops_of, is_stamped, committed_in, decided_as, decided_one}
+use Rattle.us_history.specs.Histories.{Begun, Performed, Committed, History, begun_of, ops_of, has_own_vector, committed_in}
+use Rattle.us_history.specs.States.{kind_for, own_effects, state_at}
+use Rattle.us_snapshots.specs.Acts.{Fits, act_of, writes_in, effect_at, acts_of}
+use Rattle.us_snapshots.proofs.Acts.{writes_in-append, HasWrites, acts_from-push, update-writes, writes-update}
+use Rattle.us_snapshots.proofs.Stands.{StandsEarlier, earlier_front, earlier_push}
+use Rattle.us_snapshots.specs.Snapshots.{writes_of}
+use Rattle.us_model.specs.Partitions.{known, is_too_long, form_for}
+use Rattle.us_model.specs.Sessions.{Acted, with_packets, with_note, tell, to_partition, home, next_tid, begun_transaction, begun, asked_for, ended, sent_out, write_of, recorded, decided, session_name}
+use Rattle.us_model.specs.Executions.{decided_as, decided_one}
 use Rattle.us_order.proofs.Ledgers.{me, name, Ledger, with_messages, with_told, Stands, stands_packets, stands_note, stands_tell}
 use Rattle.us_order.proofs.Partition.{own_known-clock, horizon}
-use Rattle.us_order.proofs.Acts.{state_at, Fits, act_of, writes_in, writes_in-append, writes_in-one, HasWrites, effect_at, acts_of, acts_from-push, update-writes, writes-update}
+use Rattle.us_order.proofs.Writes.{writes_in-one}
 use Rattle.us_order.proofs.OnePartition.{sent_to_one, sent_out_one, decided_at_one}
 use Rattle.us_order.proofs.Queue.{Ascends}
-use Rattle.us_order.proofs.Facts.{OfBegun, writes_of, ops_of-none, ops_of-same, ops_of-still, IsTrueAnswer, AllTrue, AllTrue-push, AllTrue-fits, StillPrepared, IsDecided, IsTrue, Numbered, DecidedFacts, PartitionFacts, SameKey, once_push, StandsEarlier, earlier_front, earlier_push, BegunForm, HistoryFacts, SharedFacts, Waits, waits-later, WaitsForPrepared, begun_as, RunningFacts, SessionFacts, OfSession, FromSession, Grows, grows_nowhere, grows_further}
+use Rattle.us_order.proofs.Facts.{OfBegun, ops_of-none, ops_of-same, ops_of-still, IsTrueAnswer, AllTrue, AllTrue-push, AllTrue-fits, StillPrepared, IsDecided, IsTrue, Numbered, DecidedFacts, PartitionFacts, SameKey, once_push, BegunForm, HistoryFacts, SharedFacts, Waits, waits-later, WaitsForPrepared, begun_as, RunningFacts, SessionFacts, OfSession, FromSession, Grows, grows_nowhere, grows_further}
 
 -- what is known before a rule
 pub record Facts (spaces : Spaces) (p : Partition) (l : Ledger) (s : Session) : Type 0 where
@@ -362,7 +368,7 @@ abbrev with_decided : History → Committed → History
 with_decided h c = record h { committed = h.committed ++ c ∷ [] }
 
 abbrev decision : Ledger → ℕ → Transaction → List ℕ → Committed
-decision l n tx vector = decided_as l.history vector (begun_as n tx)
+decision l n tx vector = decided_as l.history false vector (begun_as n tx)
 
 decided_history : (spaces : Spaces) (p : Partition) (l : Ledger) (n last : ℕ) (w : Waiting) (tx : Transaction) (vector : List ℕ) → PartitionFacts spaces p l → SharedFacts l → RunningFacts spaces p.log l n last w tx → HistoryFacts l.seq (with_decided l.history (decision l n tx vector))
 decided_history spaces p l n last w tx vector part all run = record {
@@ -435,7 +441,7 @@ stands_decided : (spaces : Spaces) (b : Ledger) (p : Partition) (l : Ledger) (d 
 stands_decided spaces b p l d n last w tx vector all run st =
     let f = stands_note b p l d (note.Decided tx.tid vector) st in
     let one = begun_of-found l.history.begun (begun_as n tx) run.begun (λ x i e. all.told.begun_once x (begun_as n tx) i run.begun e) in
-    record { actor = f.actor; one = f.one; base = f.base; seq = f.seq; messages = f.messages; history = sym (ap (decided_one l.history vector) one) ∙ f.history }
+    record { actor = f.actor; one = f.one; base = f.base; seq = f.seq; messages = f.messages; history = sym (ap (decided_one l.history false vector) one) ∙ f.history }
 
 abbrev grows_decided : (l : Ledger) (n : ℕ) (tx : Transaction) (vector : List ℕ) → Grows n l (record l { history = with_decided l.history (decision l n tx vector) })
 grows_decided l n tx vector = record {
@@ -479,7 +485,7 @@ ends_keeps spaces b p l d s at tx st h running none =
     let run = h.mine.runs tx running in
     let ds = ops_of tx.tid l.history.performed in
     let fits = AllTrue-fits spaces p tx.tid tx.snapshot [] ds (h.part.answers (begun_as s.number tx) run.begun) in
-    let no : is_stamped (decision l s.number tx tx.snapshot) ≡ true → ⊥ = λ w. subst HasWrites (sym (writes_told spaces p.log l s.number h.mine.last s.waits tx run) ∙ none) (update-writes spaces p.log tx.tid tx.snapshot ds fits w) in
+    let no : has_own_vector (decision l s.number tx tx.snapshot) ≡ true → ⊥ = λ w. subst HasWrites (sym (writes_told spaces p.log l s.number h.mine.last s.waits tx run) ∙ none) (update-writes spaces p.log tx.tid tx.snapshot ds fits w) in
     ended_keeps spaces b p l d s at tx tx.snapshot st h running (record {
       begun = run.begun;
       ops = refl;
@@ -535,7 +541,7 @@ decided_at_one_keeps spaces b p l d s at tx ts st h running has asked told =
     let same : entry vector 1 ≡ ts = entry-with_same tx.snapshot 1 ts in
     let ds = ops_of tx.tid l.history.performed in
     let fits = AllTrue-fits spaces p tx.tid tx.snapshot [] ds (h.part.answers (begun_as s.number tx) run.begun) in
-    let updates : is_stamped new ≡ true = writes-update spaces p.log tx.tid tx.snapshot ds fits (subst HasWrites told_is has) in
+    let updates : has_own_vector new ≡ true = writes-update spaces p.log tx.tid tx.snapshot ds fits (subst HasWrites told_is has) in
     let asked' : In (message.Prepare tx.tid tx.snapshot (writes_of spaces p.log new)) l.messages = subst (λ ws. In (message.Prepare tx.tid tx.snapshot ws) l.messages) told_is asked in
     let g : Grows s.number l l' = record {
       messages = goes_by l.messages (m ∷ []);

@@ -17,17 +17,18 @@ use Rattle.us_model.specs.declared.event.Event.{Event}
 use Rattle.us_model.specs.declared.event.Event.TheVariants as event
 use Rattle.us_model.specs.declared.event.Note.{Note}
 use Rattle.us_model.specs.declared.event.Note.TheVariants as note
-use Rattle.us_model.specs.declared.partition.LogTx.{LogTx}
+use Rattle.us_history.specs.declared.LogTx.{LogTx}
 use Rattle.us_model.specs.declared.coordinator.Session.{Session}
 use Rattle.us_model.specs.declared.coordinator.Desk.{Desk}
 use Rattle.std.specs.List.{range_with_len}
 use Rattle.us_model.specs.declared.settings.Settings.{Settings}
 use Rattle.us_model.specs.State.{Partition, Shard, Site, Spaces}
+use Rattle.us_history.specs.Histories.{no_history}
 use Rattle.us_model.specs.Partitions.{known, get, may_prepare, prepared as prepared_here, timestamp_for, committed, commit, versions}
 use Rattle.us_model.specs.Sessions.{Acted, bytes, close, version, prepared, run_session}
 use Rattle.us_model.specs.Sites.{Went, desk_of, all_sessions, with_partition, new_session, opened, refused_open, answer_to, take_message, is_for, actor_of, take_event, answers, wake, Stepped, is_full, shard_at, step_of, site_step, new_shard, new_shards, no_outputs}
 use Rattle.us_model.specs.Worlds.{World, Happening, Opens, Sends, Closes, Comes, nth, at_site, delivered, comes, happens, run, start}
-use Rattle.us_model.specs.Executions.{history_of, noted_all, no_history}
+use Rattle.us_model.specs.Executions.{history_of, noted_all}
 use Rattle.us_order.specs.Premise.{HasOnePartition}
 use Rattle.us_order.proofs.Ledgers.{me, Ledger, messages_of, messages_of-append, noted_all-append, with_messages, Stands}
 use Rattle.us_order.proofs.Partition.{Later, commit_by}

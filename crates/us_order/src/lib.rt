@@ -1,7 +1,14 @@
 //! Laws over every run of the written machine.
 #![tactic(auto)]
 
-ghost use Rattle.us_order.specs.Laws.{EveryRunIsPor, ExecutionsAreDirect, ExecutionsAreWellFormed, HistoriesAscend, PastsAreDirect};
+ghost use Rattle.us_order.specs.Laws.{EveryRunIsASnapshotHistory, EveryRunIsPor, ExecutionsAreDirect, ExecutionsAreWellFormed, HistoriesAscend, PastsAreDirect};
+
+/// Whatever clients send and whichever packets come, in whatever order and however often, the notes of the run tell a snapshot
+/// history (`us_snapshots`): its transactions are named apart, snapshots cover what their sessions committed before, commit
+/// vectors are at least snapshots, and each operation is answered at the state that its snapshot gives. The laws below follow.
+pub fn every_run_is_a_snapshot_history()
+    ensures { EveryRunIsASnapshotHistory }
+{}
 
 /// Whatever clients send and whichever packets come, in whatever order and however often, the execution of the run is
 /// consistent: its pasts are closed and stand earlier, each answer is its operation's value over its past and its own

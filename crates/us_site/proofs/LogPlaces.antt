@@ -11,8 +11,8 @@ use Rattle.us_value.specs.declared.item.Item.{Item}
 use Rattle.us_value.specs.declared.item.Write.{Write}
 use Rattle.us_value.specs.declared.operation.State.{State}
 use Rattle.us_value.specs.Items.{item_eq}
-use Rattle.us_model.specs.declared.partition.LogTx.{LogTx}
-use Rattle.us_model.specs.Partitions.{after_writes, after_log}
+use Rattle.us_history.specs.declared.LogTx.{LogTx}
+use Rattle.us_history.specs.States.{after_writes, after_log}
 use Rattle.us_site.specs.Logs.{writes_on, placed, after_one, after_places}
 
 -- once a place is there, further writes of its transaction change nothing

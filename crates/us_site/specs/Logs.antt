@@ -7,8 +7,8 @@ use Rattle.us_value.specs.declared.item.Item.{Item}
 use Rattle.us_value.specs.declared.item.Write.{Write}
 use Rattle.us_value.specs.declared.operation.State.{State}
 use Rattle.us_value.specs.Items.{item_eq}
-use Rattle.us_model.specs.declared.partition.LogTx.{LogTx}
-use Rattle.us_model.specs.Partitions.{after_writes}
+use Rattle.us_history.specs.declared.LogTx.{LogTx}
+use Rattle.us_history.specs.States.{after_writes}
 
 -- the transaction writes the item
 abbrev pub writes_on : Item → LogTx → Bool

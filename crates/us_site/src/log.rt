@@ -24,7 +24,7 @@ impl Model for Log {
     ghost use Rattle.std.specs.Prelude.{◌≡◌, List};
     ghost use Rattle.us_value.specs.declared.item.Item.{Item};
     ghost use Rattle.us_value.specs.Items.{item_eq};
-    ghost use Rattle.us_model.specs.declared.partition.LogTx.{LogTx};
+    ghost use Rattle.us_history.specs.declared.LogTx.{LogTx};
     ghost use Rattle.us_index.specs.Places.{places_of, places_under};
     ghost use Rattle.us_site.specs.Logs.{writes_on};
 

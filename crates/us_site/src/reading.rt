@@ -2,7 +2,8 @@
 ghost use Rattle.std.specs.Prelude.{◌≡◌, ◌++◌, IfOk, OnOk, slice_get};
 ghost use Rattle.us_site.specs.Logs.{after_one, after_places};
 ghost use Rattle.us_value.specs.Values.{answered, prepared, updated};
-ghost use Rattle.us_model.specs.Partitions.{after_writes, after_log, after_own, state_for, is_too_long, form_for, version_for, versions};
+ghost use Rattle.us_history.specs.States.{after_writes, after_log, after_own};
+ghost use Rattle.us_model.specs.Partitions.{state_for, is_too_long, form_for, version_for, versions};
 
 use crate::codec::MOST_ANSWER;
 use crate::log::Log;

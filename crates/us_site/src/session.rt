@@ -4,7 +4,8 @@ ghost use Rattle.us_client_wire.specs.Replies.{reply_spelling};
 ghost use Rattle.us_base.specs.Shape.{IsShape};
 ghost use Rattle.us_base.specs.Vector.{join};
 ghost use Rattle.us_value.specs.Catalogs.{kind_in};
-ghost use Rattle.us_model.specs.Sessions.{with_packets, with_note, reply_out, tell, session_name, refused, own_effects, asked_for, prepares, objection, begin, perform, commit_causal, abandon, request, to_partition, no_stream, is_nothing};
+ghost use Rattle.us_history.specs.States.{own_effects};
+ghost use Rattle.us_model.specs.Sessions.{with_packets, with_note, reply_out, tell, session_name, refused, asked_for, prepares, objection, begin, perform, commit_causal, abandon, request, to_partition, no_stream, is_nothing};
 
 use crate::codec::spelled;
 use crate::placement::{home, partitions_written, writes_on};

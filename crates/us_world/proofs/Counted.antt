@@ -8,8 +8,8 @@ use Rattle.std.proofs.lemmas.Option.{MatchOption-at_none, MatchOption-at_some}
 use Rattle.us_kind.specs.Words.{tid_eq}
 use Rattle.us_kind.specs.declared.identity.Tid.{Tid}
 use Rattle.us_exec.specs.declared.Done.{Done}
-use Rattle.us_model.specs.Executions.{Begun, Performed, Committed, begun_of, ops_of, committed_in, is_committed}
-use Rattle.us_order.proofs.Numbers.{numbers_more}
+use Rattle.us_history.specs.Histories.{Begun, Performed, Committed, begun_of, ops_of, committed_in, is_committed}
+use Rattle.us_snapshots.proofs.Numbers.{numbers_more}
 use Rattle.us_index.specs.Places.{places_of}
 use Rattle.us_world.specs.declared.commits.Group.{Group}
 use Rattle.us_world.specs.Found.{done_before, done_at, group_of, IsIndexed}

@@ -8,8 +8,9 @@ use Rattle.us_base.specs.Shape.{IsShape}
 use Rattle.us_model.specs.declared.settings.Settings.{Settings}
 use Rattle.us_model.specs.Worlds.{World, Happening, Opens, Sends, Closes, happens, run, start, waits_of}
 use Rattle.us_model.specs.Executions.{history_of, execution_of}
-use Rattle.us_order.specs.Pasts.{direct_execution}
-use Rattle.us_order.specs.Ascending.{Ascends}
+use Rattle.us_history.specs.Pasts.{direct_past}
+use Rattle.us_history.specs.Executions.{execution_by}
+use Rattle.us_snapshots.specs.Ascending.{Ascends}
 use Rattle.us_order.specs.Premise.{HasOnePartition}
 use Rattle.us_order.specs.Laws.{HistoriesAscend, ExecutionsAreDirect, ExecutionsAreWellFormed, EveryRunIsPor}
 use Rattle.us_world.specs.declared.fault.WorldFault.{WorldFault}
@@ -126,9 +127,9 @@ built_rest left rest l b is = (subst AllBuilt is b).1
 pub have_world : (settings : Settings) (lines : List Numbered) (k : Kept) → HasReached settings lines k → HaveWorld settings lines
 have_world settings lines k so = record { world = so.world; is = so.is }
 
-report-same : (k : Kept) (w : World) → StandsFor k w → execution_of w.notes ≡ direct_execution (history_of w.notes) → report_of_kept k ≡ report_of w
+report-same : (k : Kept) (w : World) → StandsFor k w → execution_of w.notes ≡ execution_by direct_past (history_of w.notes) → report_of_kept k ≡ report_of w
 report-same k w h direct =
-    let execution : direct_execution k.history ≡ execution_of w.notes = ap direct_execution (sym h.history) ∙ sym direct in
+    let execution : execution_by direct_past k.history ≡ execution_of w.notes = ap (execution_by direct_past) (sym h.history) ∙ sym direct in
     let refused = ap (λ t. map reported t.refused) (sym h.history) in
     let waits = ap (λ sites. map waiting (waits_of sites)) (sym h.sites) in
     λ i. record { execution = execution i; refused = refused i; waiting = waits i }
@@ -136,8 +137,8 @@ report-same k w h direct =
 pub report_is : (settings : Settings) → HasOnePartition settings → (lines : List Numbered) (k : Kept) (report : Report) → HasReached settings lines k → ExecutionsAreDirect → report ≡ report_of_kept k
     → IsReportOf settings lines report
 report_is settings one lines k report so direct is =
-    let same : execution_of so.world.notes ≡ direct_execution (history_of so.world.notes) =
-    subst (λ (w : World). execution_of w.notes ≡ direct_execution (history_of w.notes)) (sym so.is.run) (direct settings one so.is.events)
+    let same : execution_of so.world.notes ≡ execution_by direct_past (history_of so.world.notes) =
+    subst (λ (w : World). execution_of w.notes ≡ execution_by direct_past (history_of w.notes)) (sym so.is.run) (direct settings one so.is.events)
     in
     record { world = so.world; reached = so.is; is = is ∙ report-same k so.world so.stands same }
 

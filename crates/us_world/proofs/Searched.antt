@@ -15,12 +15,14 @@ use Rattle.us_base.specs.Vector.{at_most}
 use Rattle.us_base.proofs.Vectors.{at_most-trans}
 use Rattle.us_exec.specs.declared.SessionName.{SessionName}
 use Rattle.us_exec.specs.Past.{session_eq}
-use Rattle.us_model.specs.Executions.{Begun, Committed, History, is_stamped, leads, committed_in}
-use Rattle.us_order.specs.Ascending.{SessionsAscend, IsNotInItsOwn, Ascends}
-use Rattle.us_order.specs.Numbers.{of_session}
-use Rattle.us_order.specs.Pasts.{direct_count}
-use Rattle.us_order.proofs.Numbers.{later_in, numbers_rise}
-use Rattle.us_order.proofs.Pasts.{session_eq-true, session_eq-same}
+use Rattle.us_history.specs.Histories.{Begun, Committed, History, has_own_vector, committed_in}
+use Rattle.us_history.specs.Pasts.{count_of}
+use Rattle.us_snapshots.specs.Ascending.{SessionsAscend, IsNotInItsOwn, Ascends}
+use Rattle.us_history.specs.Histories.{of_session}
+use Rattle.us_history.specs.Pasts.{count_of}
+use Rattle.us_world.specs.Found.{leads_to}
+use Rattle.us_snapshots.proofs.Numbers.{later_in, numbers_rise}
+use Rattle.us_snapshots.proofs.Tests.{session_eq-true, session_eq-same}
 use Rattle.us_kind.proofs.TestLemmas.{tid_eq-true}
 use Rattle.us_index.specs.Places.{places_of}
 use Rattle.us_world.specs.declared.commits.Group.{Group}
@@ -67,8 +69,8 @@ found-places f key all k (c ∷ cs) there =
 
 -- the test of a group's key
 group-test : (q : Group → Bool) (s : SessionName) (updates : Bool) → ((a : SessionName) (b : Bool) → q (record { session = a; updates = b }) ≡ (session_eq a s && cond updates b (not b))) → (c : Committed) → q (group_of c) ≡ is_in_group s updates c
-group-test q s true h c = h c.begun.session (is_stamped c)
-group-test q s false h c = h c.begun.session (is_stamped c)
+group-test q s true h c = h c.begun.session (has_own_vector c)
+group-test q s false h c = h c.begun.session (has_own_vector c)
 
 pub group_found : (q : Group → Bool) (s : SessionName) (updates : Bool) (cs : List Committed) (keys : List Group) (places : List ℕ)
     → ((a : SessionName) (b : Bool) → q (record { session = a; updates = b }) ≡ (session_eq a s && cond updates b (not b)))
@@ -92,7 +94,7 @@ both_groups s cs ps qs p q =
 
     parts : (ds : List Committed) → length (filter (is_in_group s true) ds) + length (filter (is_in_group s false) ds) ≡ committed_in s ds
     parts [] = refl
-    parts (d ∷ ds) = on (session_eq d.begun.session s) (is_stamped d) (parts ds)
+    parts (d ∷ ds) = on (session_eq d.begun.session s) (has_own_vector d) (parts ds)
       where
         on : (a u : Bool) → length (filter (is_in_group s true) ds) + length (filter (is_in_group s false) ds) ≡ committed_in s ds
             → length (cond (a && u) (d ∷ filter (is_in_group s true) ds) (filter (is_in_group s true) ds)) + length (cond (a && not u) (d ∷ filter (is_in_group s false) ds) (filter (is_in_group s false) ds)) ≡ cond a (committed_in s ds + 1) (committed_in s ds)
@@ -237,7 +239,7 @@ greatest-none p (c ∷ cs) h = on (p c) (h c (inl refl)) (greatest-none p cs (λ
 
 pub earlier_both : (s : SessionName) (seq : ℕ) (cs : List Committed)
     → max (greatest (λ c. is_in_group s true c && is_earlier seq c) cs) (greatest (λ c. is_in_group s false c && is_earlier seq c) cs) ≡ greatest (is_earlier_of s seq) cs
-earlier_both s seq cs = sym (greatest-or (is_earlier_of s seq) (λ c. is_in_group s true c && is_earlier seq c) (λ c. is_in_group s false c && is_earlier seq c) cs (λ c i. on (session_eq c.begun.session s) (is_stamped c) (is_earlier seq c)))
+earlier_both s seq cs = sym (greatest-or (is_earlier_of s seq) (λ c. is_in_group s true c && is_earlier seq c) (λ c. is_in_group s false c && is_earlier seq c) cs (λ c i. on (session_eq c.begun.session s) (has_own_vector c) (is_earlier seq c)))
   where
     on : (a u e : Bool) → (a && e) ≡ (((a && u) && e) || ((a && not u) && e))
     on true true true = refl
@@ -245,18 +247,18 @@ earlier_both s seq cs = sym (greatest-or (is_earlier_of s seq) (λ c. is_in_grou
     on true false e = refl
     on false u e = refl
 
-direct-is : (s : SessionName) (t : Begun) (cs : List Committed) → direct_count s t cs ≡ greatest (λ c. session_eq c.begun.session s && leads c t) cs
+direct-is : (s : SessionName) (t : Begun) (cs : List Committed) → count_of (leads_to t) s cs ≡ greatest (λ c. session_eq c.begun.session s && leads_to t c) cs
 direct-is s t [] = refl
-direct-is s t (c ∷ cs) = ap (λ n. cond (session_eq c.begun.session s && leads c t) (max c.number n) n) (direct-is s t cs)
+direct-is s t (c ∷ cs) = ap (λ n. cond (session_eq c.begun.session s && leads_to t c) (max c.number n) n) (direct-is s t cs)
 
 less-self : (n : ℕ) → nat_lt n n ≡ false
 less-self n = grind (arith, nat_tests)
 
 -- the transaction itself is neither earlier nor shown
-leads-either : (cs : List Committed) (t : Begun) → IsNotInItsOwn cs t → (c : Committed) → In c cs → leads c t ≡ ((session_eq c.begun.session t.session && nat_lt c.begun.tid.seq t.tid.seq) || (is_stamped c && at_most c.vector t.snapshot))
-leads-either cs t others c i = on (tid_eq c.begun.tid t.tid) refl (session_eq c.begun.session t.session) (nat_lt c.begun.tid.seq t.tid.seq) refl (is_stamped c) refl (at_most c.vector t.snapshot) refl
+leads-either : (cs : List Committed) (t : Begun) → IsNotInItsOwn cs t → (c : Committed) → In c cs → leads_to t c ≡ ((session_eq c.begun.session t.session && nat_lt c.begun.tid.seq t.tid.seq) || (has_own_vector c && at_most c.vector t.snapshot))
+leads-either cs t others c i = on (tid_eq c.begun.tid t.tid) refl (session_eq c.begun.session t.session) (nat_lt c.begun.tid.seq t.tid.seq) refl (has_own_vector c) refl (at_most c.vector t.snapshot) refl
   where
-    on : (b : Bool) → tid_eq c.begun.tid t.tid ≡ b → (s l : Bool) → nat_lt c.begun.tid.seq t.tid.seq ≡ l → (u : Bool) → is_stamped c ≡ u → (m : Bool) → at_most c.vector t.snapshot ≡ m
+    on : (b : Bool) → tid_eq c.begun.tid t.tid ≡ b → (s l : Bool) → nat_lt c.begun.tid.seq t.tid.seq ≡ l → (u : Bool) → has_own_vector c ≡ u → (m : Bool) → at_most c.vector t.snapshot ≡ m
         → (not b && ((s && l) || (u && m))) ≡ ((s && l) || (u && m))
     on false e s l f u g m k = refl
     on true e s true f u g m k = absurd (true≢false (sym f ∙ ap (λ (n : ℕ). nat_lt n t.tid.seq) (ap (λ x. x.seq) (tid_eq-true c.begun.tid t.tid e)) ∙ less-self t.tid.seq))
@@ -268,11 +270,11 @@ leads-either cs t others c i = on (tid_eq c.begun.tid t.tid) refl (session_eq c.
     on true e false false f false g m k = refl
 
 direct-or : (s : SessionName) (t : Begun) (cs : List Committed) → IsNotInItsOwn cs t
-    → direct_count s t cs ≡ max (greatest (λ c. session_eq c.begun.session s && (session_eq c.begun.session t.session && nat_lt c.begun.tid.seq t.tid.seq)) cs) (greatest (is_shown_of s t.snapshot) cs)
+    → count_of (leads_to t) s cs ≡ max (greatest (λ c. session_eq c.begun.session s && (session_eq c.begun.session t.session && nat_lt c.begun.tid.seq t.tid.seq)) cs) (greatest (is_shown_of s t.snapshot) cs)
 direct-or s t cs others =
     direct-is s t cs
-    ∙ greatest-or (λ c. session_eq c.begun.session s && leads c t) (λ c. session_eq c.begun.session s && (session_eq c.begun.session t.session && nat_lt c.begun.tid.seq t.tid.seq)) (is_shown_of s t.snapshot) cs
-    (λ c i. ap (λ b. session_eq c.begun.session s && b) (leads-either cs t others c i) ∙ on (session_eq c.begun.session s) (session_eq c.begun.session t.session && nat_lt c.begun.tid.seq t.tid.seq) (is_stamped c) (at_most c.vector t.snapshot))
+    ∙ greatest-or (λ c. session_eq c.begun.session s && leads_to t c) (λ c. session_eq c.begun.session s && (session_eq c.begun.session t.session && nat_lt c.begun.tid.seq t.tid.seq)) (is_shown_of s t.snapshot) cs
+    (λ c i. ap (λ b. session_eq c.begun.session s && b) (leads-either cs t others c i) ∙ on (session_eq c.begun.session s) (session_eq c.begun.session t.session && nat_lt c.begun.tid.seq t.tid.seq) (has_own_vector c) (at_most c.vector t.snapshot))
   where
     on : (a e u m : Bool) → (a && (e || (u && m))) ≡ ((a && e) || ((a && u) && m))
     on true e u m = refl
@@ -280,7 +282,7 @@ direct-or s t cs others =
 
 -- of the transaction's own session
 pub direct_own : (s : SessionName) (t : Begun) (cs : List Committed) (a b : ℕ) → IsNotInItsOwn cs t → session_eq s t.session ≡ true
-    → a ≡ greatest (is_earlier_of s t.tid.seq) cs → b ≡ greatest (is_shown_of s t.snapshot) cs → max a b ≡ direct_count s t cs
+    → a ≡ greatest (is_earlier_of s t.tid.seq) cs → b ≡ greatest (is_shown_of s t.snapshot) cs → max a b ≡ count_of (leads_to t) s cs
 direct_own s t cs a b others same ea eb = (λ i. max (ea i) (eb i)) ∙ ap (λ n. max n (greatest (is_shown_of s t.snapshot) cs)) (greatest-same cs) ∙ sym (direct-or s t cs others)
   where
     is : s ≡ t.session
@@ -298,7 +300,7 @@ direct_own s t cs a b others same ea eb = (λ i. max (ea i) (eb i)) ∙ ap (λ n
     greatest-same (d ∷ ds) = λ i. cond (one d i) (max d.number (greatest-same ds i)) (greatest-same ds i)
 
 -- of another session
-pub direct_other : (s : SessionName) (t : Begun) (cs : List Committed) (b : ℕ) → IsNotInItsOwn cs t → session_eq s t.session ≡ false → b ≡ greatest (is_shown_of s t.snapshot) cs → b ≡ direct_count s t cs
+pub direct_other : (s : SessionName) (t : Begun) (cs : List Committed) (b : ℕ) → IsNotInItsOwn cs t → session_eq s t.session ≡ false → b ≡ greatest (is_shown_of s t.snapshot) cs → b ≡ count_of (leads_to t) s cs
 direct_other s t cs b others apart eb =
     eb
     ∙ more (greatest (is_shown_of s t.snapshot) cs)

@@ -18,7 +18,8 @@ use Rattle.us_site.specs.Served.{Served}
 use Rattle.us_model.specs.State.{Site}
 use Rattle.us_model.specs.Sites.{Stepped, site_step}
 use Rattle.us_model.specs.Worlds.{World, Comes, nth, stepped, at_one, at_site, delivered, comes, happens, is_delivered}
-use Rattle.us_model.specs.Executions.{History, noted, noted_all, no_history}
+use Rattle.us_history.specs.Histories.{History, no_history}
+use Rattle.us_model.specs.Executions.{noted, noted_all}
 use Rattle.us_world.specs.declared.world.Sent.{Sent}
 use Rattle.us_world.specs.Limits.{is_opening, is_beginning, how_many, opened_in, begun_in}
 use Rattle.us_world.specs.Kept.{Kept, StandsFor, site_of, HasStepped, packet_of, fresh, unmarked, is_marked_at, after_step, after_nothing, after_one, after_at, marked, after_delivery, HasSkipped, IsDelivered, HasCome, LimitSays, passed_by}

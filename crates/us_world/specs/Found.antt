@@ -4,10 +4,12 @@ use Rattle.us_kind.specs.Updates.{AllLater}
 use Rattle.us_base.specs.Vector.{at_most}
 use Rattle.us_exec.specs.declared.SessionName.{SessionName}
 use Rattle.us_exec.specs.declared.Done.{Done}
+use Rattle.us_exec.specs.declared.Count.{Count}
 use Rattle.us_exec.specs.Past.{session_eq}
-use Rattle.us_model.specs.Executions.{Begun, Performed, Committed, is_stamped}
-use Rattle.us_order.specs.Numbers.{AreNumbered}
-use Rattle.us_order.specs.Ascending.{SessionsAscend, IsNotInItsOwn}
+use Rattle.us_history.specs.Histories.{Begun, Performed, Committed, has_own_vector}
+use Rattle.us_history.specs.Pasts.{leads, sessions_of, counts_of}
+use Rattle.us_history.specs.Histories.{AreNumbered}
+use Rattle.us_snapshots.specs.Ascending.{SessionsAscend, IsNotInItsOwn}
 use Rattle.us_world.specs.declared.commits.Group.{Group}
 
 -- the operation found, before these
@@ -22,17 +24,17 @@ done_at ps (i ∷ is) = done_before (slice_get ps i) (done_at ps is)
 
 -- the group of a transaction
 abbrev pub group_of : Committed → Group
-group_of c = record { session = c.begun.session; updates = is_stamped c }
+group_of c = record { session = c.begun.session; updates = has_own_vector c }
 
 -- the keys are the groups of the transactions, which are numbered
 pub record IsIndexed (cs : List Committed) (keys : List Group) : Type 0 where
   pub groups : keys ≡ map group_of cs
   pub numbers : AreNumbered cs
 
--- updating, or not
+-- with a vector of its own, or not
 abbrev pub updates_so : Bool → Committed → Bool
-updates_so true c = is_stamped c
-updates_so false c = not (is_stamped c)
+updates_so true c = has_own_vector c
+updates_so false c = not (has_own_vector c)
 
 -- of the session, and updating or not
 abbrev pub is_in_group : SessionName → Bool → Committed → Bool
@@ -59,6 +61,14 @@ is_earlier_of s seq c = session_eq c.begun.session s && is_earlier seq c
 -- of the session, updating, and in the snapshot
 abbrev pub is_shown_of : SessionName → List ℕ → Committed → Bool
 is_shown_of s snapshot c = is_in_group s true c && is_shown snapshot c
+
+-- leads to the transaction in one step, where no session goes on from another one
+abbrev pub leads_to : Begun → Committed → Bool
+leads_to t c = leads [] c t
+
+-- and so its past
+abbrev pub unlinked_past : List Committed → Begun → List Count
+unlinked_past cs t = counts_of (leads_to t) cs (sessions_of cs)
 
 -- what leads to the transaction can be searched for by halves
 pub record IsSearchable (cs : List Committed) (t : Begun) : Type 0 where

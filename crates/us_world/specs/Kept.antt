@@ -8,7 +8,8 @@ use Rattle.us_model.specs.Sites.{Stepped, site_step}
 use Rattle.us_model.specs.declared.event.Outputs.{Outputs}
 use Rattle.us_site.specs.Served.{Served}
 use Rattle.us_model.specs.Worlds.{World, nth, is_delivered}
-use Rattle.us_model.specs.Executions.{History, noted_all, history_of}
+use Rattle.us_history.specs.Histories.{History}
+use Rattle.us_model.specs.Executions.{noted_all, history_of}
 use Rattle.us_world.specs.declared.world.Sent.{Sent}
 use Rattle.us_world.specs.declared.fault.WorldFault.{WorldFault}
 use Rattle.us_world.specs.declared.fault.WorldFault.TheVariants as fault

@@ -7,7 +7,8 @@ use Rattle.us_report.specs.declared.report.Report.{Report}
 use Rattle.us_model.specs.declared.settings.Settings.{Settings}
 use Rattle.us_model.specs.Worlds.{World, Happening, Waits, waits_of, run}
 use Rattle.us_model.specs.Executions.{execution_of, refusals_of}
-use Rattle.us_order.specs.Pasts.{direct_execution}
+use Rattle.us_history.specs.Pasts.{direct_past}
+use Rattle.us_history.specs.Executions.{execution_by}
 use Rattle.us_world.specs.Direct.{reported}
 use Rattle.us_world.specs.Kept.{Kept, StandsFor}
 use Rattle.us_world.specs.Limits.{Performs, Begins, delivery, limit_of, IsWorldOf, IsPassedAt}
@@ -70,7 +71,7 @@ report_of w = record { execution = execution_of w.notes; refused = map reported 
 
 -- as it is of what is kept
 abbrev pub report_of_kept : Kept → Report
-report_of_kept k = record { execution = direct_execution k.history; refused = map reported k.history.refused; waiting = map waiting (waits_of k.sites) }
+report_of_kept k = record { execution = execution_by direct_past k.history; refused = map reported k.history.refused; waiting = map waiting (waits_of k.sites) }
 
 -- what is kept stands for the world of the lines
 pub record HasReached (settings : Settings) (lines : List Numbered) (k : Kept) : Type 0 where

@@ -1,14 +1,14 @@
 //! Whether a history ascends, as that of every run does.
 ghost use Rattle.std.specs.Prelude.{◌≡◌, true};
 ghost use Rattle.std.specs.List.{list_all};
-ghost use Rattle.us_model.specs.Executions.{Committed};
-ghost use Rattle.us_order.specs.Ascending.{Ascends};
+ghost use Rattle.us_history.specs.Histories.{Committed};
+ghost use Rattle.us_snapshots.specs.Ascending.{Ascends};
 ghost use Rattle.us_world.specs.ByHand.{all_stay_out, ascend_by_number, ascends, sessions_ascend, stays_out};
 
 use crate::beginnings::Beginning;
 use crate::commits::Commit;
 use crate::history::History;
-use crate::past::{is_stamped, same_session};
+use crate::past::{has_own_vector, same_session};
 
 impl History {
     /// Whether the history ascends, as `execution` wants it. That of every run does (`us_order`, `histories_ascend`): this is
@@ -23,7 +23,8 @@ impl History {
     fn each_two_ascend(&self) -> bool
         ensures { result ≡ ascends self.now }
     {
-        sessions_ascend(self.committed())
+        self.links().is_empty()
+            && sessions_ascend(self.committed())
             && commits_stay_out(self.committed(), self.committed())
             && beginnings_stay_out(self.committed(), self.begun())
     }
@@ -53,7 +54,7 @@ fn ascend_by_number(a: &Commit, b: &Commit) -> bool
         || (a.begun.tid.seq < b.begun.tid.seq && a.vector.at_most(&b.vector))
 }
 
-/// No commit that updates is in the snapshot of its own transaction, of these.
+/// No commit with a vector of its own is in the snapshot of its transaction, of these.
 fn commits_stay_out(committed: &[Commit], of: &[Commit]) -> bool
     ensures { result ≡ list_all (λ (d : Committed). all_stay_out committed.now d.begun) of.now }
 {
@@ -82,5 +83,5 @@ fn stays_out(begun: &Beginning, commit: &Commit) -> bool
     ensures { result ≡ stays_out begun.now commit.now }
 {
     !commit.begun.tid.same(&begun.tid)
-        || !(is_stamped(commit) && commit.vector.at_most(&begun.snapshot))
+        || !(has_own_vector(commit) && commit.vector.at_most(&begun.snapshot))
 }

@@ -1,6 +1,6 @@
 //! The transactions that were begun.
 ghost use Rattle.std.specs.Prelude.{◌≡◌, ◌++◌, ◌∷◌, [], OnOk, slice_get};
-ghost use Rattle.us_model.specs.Executions.{begun_of};
+ghost use Rattle.us_history.specs.Histories.{begun_of};
 
 use std::alloc::Global;
 use std::marker::Model;
@@ -18,7 +18,7 @@ pub struct Beginning {
 }
 
 impl Model for Beginning {
-    ghost use Rattle.us_model.specs.Executions.{Begun};
+    ghost use Rattle.us_history.specs.Histories.{Begun};
 
     ghost Value = { Begun };
 
@@ -36,7 +36,7 @@ pub struct Beginnings {
 
 impl Model for Beginnings {
     ghost use Rattle.std.specs.Prelude.{◌≡◌, List, map};
-    ghost use Rattle.us_model.specs.Executions.{Begun};
+    ghost use Rattle.us_history.specs.Histories.{Begun};
 
     ghost Value = { List Begun };
 

@@ -1,13 +1,14 @@
 //! The transactions that were committed.
 ghost use Rattle.std.specs.Prelude.{◌≡◌, ◌+◌, ◌++◌, ◌∷◌, [], ◌&&◌, true, Some, map, filter, max, IfOk, OnOk, OnErr, slice_get};
-ghost use Rattle.us_model.specs.Executions.{committed_in};
-ghost use Rattle.us_order.specs.Ascending.{SessionsAscend};
-ghost use Rattle.us_order.specs.Pasts.{direct_count};
+ghost use Rattle.us_history.specs.Histories.{committed_in};
+ghost use Rattle.us_snapshots.specs.Ascending.{SessionsAscend};
+ghost use Rattle.us_history.specs.Pasts.{count_of};
+ghost use Rattle.us_world.specs.Found.{leads_to};
 ghost use Rattle.us_world.specs.Found.{group_of, is_in_group, greatest, greatest_found, found_at, passes, number_of, is_earlier, is_earlier_of, is_shown, is_shown_of, IsSearchable, PassFirst};
 
 use crate::beginnings::Beginning;
 use crate::numbers::plus;
-use crate::past::{is_stamped, same_session};
+use crate::past::{has_own_vector, same_session};
 use std::alloc::Global;
 use std::marker::Model;
 use us_base::Vector;
@@ -20,19 +21,20 @@ use us_kind::{Items, Memory};
 pub struct Commit {
     pub begun: Beginning,
     pub number: u64,
+    pub strong: bool,
     pub vector: Vector,
     pub ops: Items<Done>,
 }
 
 impl Model for Commit {
-    ghost use Rattle.us_model.specs.Executions.{Committed};
+    ghost use Rattle.us_history.specs.Histories.{Committed};
 
     ghost Value = { Committed };
 
-    ghost view = { λ a. record { begun = a.begun; number = a.number; vector = a.vector; ops = a.ops } };
+    ghost view = { λ a. record { begun = a.begun; number = a.number; strong = a.strong; vector = a.vector; ops = a.ops } };
 }
 
-/// The transactions of a session that update, or those that don't.
+/// The transactions of a session with a commit vector of their own, or those without.
 #[derive(Clone, Copy, PartialEq, Eq, Hash)]
 pub struct Group {
     pub session: SessionName,
@@ -48,7 +50,7 @@ pub struct Commits {
 
 impl Model for Commits {
     ghost use Rattle.std.specs.Prelude.{List};
-    ghost use Rattle.us_model.specs.Executions.{Committed};
+    ghost use Rattle.us_history.specs.Histories.{Committed};
     ghost use Rattle.us_world.specs.Found.{IsIndexed};
 
     ghost Value = { List Committed };
@@ -87,7 +89,7 @@ impl Commits {
     /// session's transactions that update those in a snapshot come first, and of this one's session those begun earlier.
     pub fn count_before(&self, session: &SessionName, transaction: &Beginning) -> u64
         requires { IsSearchable self.now transaction.now }
-        ensures { result ≡ direct_count session.now transaction.now self.now }
+        ensures { result ≡ count_of (leads_to transaction.now) session.now self.now }
     {
         let shown = self.last_shown(session, &transaction.snapshot);
         if same_session(session, &transaction.session) {
@@ -156,7 +158,7 @@ fn group_of(commit: &Commit) -> Group
 {
     Group {
         session: commit.begun.session,
-        updates: is_stamped(commit),
+        updates: has_own_vector(commit),
     }
 }
 

@@ -1,9 +1,12 @@
 //! The execution that a history tells.
 ghost use Rattle.std.specs.Prelude.{◌≡◌, IfOk, map};
-ghost use Rattle.us_model.specs.Executions.{Committed, is_committed, sessions_of};
+ghost use Rattle.us_history.specs.Histories.{Committed, is_committed};
+ghost use Rattle.us_history.specs.Pasts.{sessions_of};
 ghost use Rattle.us_kind.specs.Words.{In};
-ghost use Rattle.us_order.specs.Ascending.{Ascends};
-ghost use Rattle.us_order.specs.Pasts.{direct_entry_of, direct_entries, direct_loose, direct_loose_one, direct_execution};
+ghost use Rattle.us_snapshots.specs.Ascending.{Ascends};
+ghost use Rattle.us_history.specs.Executions.{entry_of, entries_of, loose_of, loose_one, execution_by};
+ghost use Rattle.us_world.specs.Found.{unlinked_past};
+ghost use Rattle.us_history.specs.Pasts.{direct_past};
 ghost use Rattle.us_world.specs.Direct.{reported};
 ghost use Rattle.us_world.specs.Found.{IsSearchable};
 
@@ -26,13 +29,13 @@ fn entry_of(
 ) -> Result<Entry, Memory>
     requires sessions { sessions.now ≡ sessions_of committed.now }
     requires searchable { IsSearchable committed.now commit.now.begun }
-    ensures { IfOk result (λ entry. entry ≡ direct_entry_of committed.now commit.now) }
+    ensures { IfOk result (λ entry. entry ≡ entry_of (unlinked_past committed.now) commit.now) }
 {
     Ok(Entry {
         tid: commit.begun.tid,
         session: commit.begun.session,
         number: commit.number,
-        strong: false,
+        strong: commit.strong,
         ops: copies(alloc, commit.ops.as_slice())?,
         past: past_of(alloc, sessions, committed, &commit.begun)?,
     })
@@ -58,7 +61,7 @@ fn entries_of(
 ) -> Result<Items<Entry>, Memory>
     requires sessions { sessions.now ≡ sessions_of committed.now }
     requires searchable { (c : Committed) → In c (map (λ c. c.now) order.now) → IsSearchable committed.now c.begun }
-    ensures { IfOk result (λ entries. entries ≡ direct_entries committed.now (map (λ c. c.now) order.now)) }
+    ensures { IfOk result (λ entries. entries ≡ entries_of (unlinked_past committed.now) (map (λ c. c.now) order.now)) }
 {
     let mut entries = Items::new(alloc);
     for commit in order {
@@ -83,7 +86,7 @@ impl History {
     /// beginning, each with its operations and its past. Every run's history ascends (`us_order`, `histories_ascend`).
     pub fn execution(&self, alloc: Global) -> Result<Execution, Memory>
         requires { Ascends self.now }
-        ensures { IfOk result (λ execution. execution ≡ direct_execution self.now) }
+        ensures { IfOk result (λ execution. execution ≡ execution_by direct_past self.now) }
     {
         let sessions = sessions_of(alloc, self.committed())?;
         let order = arbitrated(alloc, self.committed())?;
@@ -121,7 +124,7 @@ impl History {
     fn loose(&self, alloc: Global, sessions: &[SessionName]) -> Result<Items<Loose>, Memory>
         requires sessions { sessions.now ≡ sessions_of self.now.committed }
         requires ascends { Ascends self.now }
-        ensures { IfOk result (λ loose. loose ≡ direct_loose self.now self.now.begun) }
+        ensures { IfOk result (λ loose. loose ≡ loose_of (unlinked_past self.now.committed) self.now self.now.begun) }
     {
         let committed = committed_tids(alloc, self.committed())?;
         let mut loose = Items::new(alloc);
@@ -143,7 +146,7 @@ impl History {
     ) -> Result<Loose, Memory>
         requires sessions { sessions.now ≡ sessions_of self.now.committed }
         requires searchable { IsSearchable self.now.committed beginning.now }
-        ensures { IfOk result (λ loose. loose ≡ direct_loose_one self.now beginning.now) }
+        ensures { IfOk result (λ loose. loose ≡ loose_one (unlinked_past self.now.committed) self.now beginning.now) }
     {
         Ok(Loose {
             tid: beginning.tid,

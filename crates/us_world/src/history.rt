@@ -1,6 +1,8 @@
 //! What a run's notes tell, by kind.
 ghost use Rattle.std.specs.Prelude.{◌≡◌, IfOk, OnOk};
-ghost use Rattle.us_model.specs.Executions.{no_history, noted, ops_of, end_of};
+ghost use Rattle.us_history.specs.Histories.{no_history, ops_of};
+ghost use Rattle.us_history.specs.Executions.{end_of};
+ghost use Rattle.us_model.specs.Executions.{noted};
 ghost use Rattle.us_model.specs.declared.event.Note.TheVariants as note;
 
 use crate::beginnings::{Beginning, Beginnings};
@@ -9,7 +11,7 @@ use crate::performances::{Performance, Performances};
 use std::alloc::Global;
 use std::marker::Model;
 use us_base::Vector;
-use us_exec::{Done, LooseEnd, SessionName};
+use us_exec::{Done, Link, LooseEnd, SessionName};
 use us_index::Listed;
 use us_kind::{Items, Memory, Tid};
 use us_model::Note;
@@ -23,7 +25,7 @@ pub struct RefusedRequest {
 }
 
 impl Model for RefusedRequest {
-    ghost use Rattle.us_model.specs.Executions.{Refusal};
+    ghost use Rattle.us_history.specs.Histories.{Refusal};
 
     ghost Value = { Refusal };
 
@@ -39,15 +41,17 @@ pub struct History {
     performed: Performances,
     committed: Commits,
     left: Listed<Tid>,
+    links: Vec<Link>,
     refused: Vec<RefusedRequest>,
 }
 
 impl Model for History {
-    ghost use Rattle.us_model.specs.Executions.{History as Told};
+    ghost use Rattle.std.specs.Prelude.{[]};
+    ghost use Rattle.us_history.specs.Histories.{History as Told};
 
     ghost Value = { Told };
 
-    ghost view = { λ a. record { begun = a.begun; performed = a.performed; committed = a.committed; left = a.left; refused = a.refused.items } };
+    ghost view = { λ a. record { begun = a.begun; performed = a.performed; committed = a.committed; left = a.left; aborted = []; links = a.links.items; refused = a.refused.items } };
 }
 
 impl History {
@@ -60,6 +64,7 @@ impl History {
             performed: Performances::new(alloc),
             committed: Commits::new(alloc),
             left: Listed::new(alloc),
+            links: Vec::new(alloc),
             refused: Vec::new(alloc),
         }
     }
@@ -126,6 +131,13 @@ impl History {
         self.left.as_slice()
     }
 
+    /// The links from sessions to those that they go on from, in order. No note tells of one yet.
+    pub fn links(&self) -> &[Link]
+        ensures { result.now ≡ self.now.links }
+    {
+        self.links.as_slice()
+    }
+
     /// The refused requests, in order.
     pub fn refused(&self) -> &[RefusedRequest]
         ensures { result.now ≡ self.now.refused }
@@ -149,7 +161,7 @@ impl History {
 
     /// How a transaction stands that was begun and isn't committed.
     pub(crate) fn end_of(&self, tid: &Tid) -> LooseEnd
-        ensures { result ≡ end_of tid.now self.now.left }
+        ensures { result ≡ end_of tid.now self.now.aborted self.now.left }
     {
         if self.left.contains(tid) {
             LooseEnd::Left
@@ -169,6 +181,7 @@ impl History {
             self.committed.push(Commit {
                 begun,
                 number,
+                strong: false,
                 vector,
                 ops,
             })?;

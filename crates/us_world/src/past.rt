@@ -1,9 +1,10 @@
 //! What is before a transaction, counted per session.
 ghost use Rattle.std.specs.Prelude.{◌≡◌, IfOk};
 ghost use Rattle.us_exec.specs.Past.{session_eq};
-ghost use Rattle.us_model.specs.Executions.{is_stamped};
+ghost use Rattle.us_history.specs.Histories.{has_own_vector, some_update};
 ghost use Rattle.us_value.specs.Values.{is_update};
-ghost use Rattle.us_order.specs.Pasts.{direct_counts};
+ghost use Rattle.us_history.specs.Pasts.{counts_of};
+ghost use Rattle.us_world.specs.Found.{leads_to};
 ghost use Rattle.us_world.specs.Found.{IsSearchable};
 
 use crate::beginnings::Beginning;
@@ -20,7 +21,7 @@ pub fn past_of(
     transaction: &Beginning,
 ) -> Result<Items<Count>, Memory>
     requires { IsSearchable committed.now transaction.now }
-    ensures { IfOk result (λ past. past ≡ direct_counts committed.now transaction.now sessions.now) }
+    ensures { IfOk result (λ past. past ≡ counts_of (leads_to transaction.now) committed.now sessions.now) }
 {
     let mut past = Items::new(alloc);
     for session in sessions {
@@ -41,11 +42,17 @@ fn updates(done: &Done) -> bool
     done.op.is_update()
 }
 
-/// The transaction updates.
-pub fn is_stamped(commit: &Commit) -> bool
-    ensures { result ≡ is_stamped commit.now }
+fn some_update(ops: &[Done]) -> bool
+    ensures { result ≡ some_update ops.now }
 {
-    commit.ops.as_slice().iter().any(updates)
+    ops.iter().any(updates)
+}
+
+/// Whether the transaction has a commit vector of its own: it is strong, or it updates.
+pub fn has_own_vector(commit: &Commit) -> bool
+    ensures { result ≡ has_own_vector commit.now }
+{
+    commit.strong || some_update(commit.ops.as_slice())
 }
 
 /// The two are the same session.

@@ -1,6 +1,6 @@
 //! The operations that were performed.
 ghost use Rattle.std.specs.Prelude.{◌≡◌, ◌++◌, ◌∷◌, [], IfOk, OnOk, slice_get};
-ghost use Rattle.us_model.specs.Executions.{ops_of};
+ghost use Rattle.us_history.specs.Histories.{ops_of};
 ghost use Rattle.us_world.specs.Found.{done_at, done_before};
 
 use std::alloc::Global;
@@ -17,7 +17,7 @@ pub struct Performance {
 }
 
 impl Model for Performance {
-    ghost use Rattle.us_model.specs.Executions.{Performed};
+    ghost use Rattle.us_history.specs.Histories.{Performed};
 
     ghost Value = { Performed };
 
@@ -33,7 +33,7 @@ pub struct Performances {
 
 impl Model for Performances {
     ghost use Rattle.std.specs.Prelude.{◌≡◌, List, map};
-    ghost use Rattle.us_model.specs.Executions.{Performed};
+    ghost use Rattle.us_history.specs.Histories.{Performed};
 
     ghost Value = { List Performed };
 

@@ -3,7 +3,7 @@ ghost use Rattle.std.specs.Prelude.{◌≡◌, ◌+◌, ◌++◌, ◌<◌, ◌�
 ghost use Rattle.us_base.specs.Shape.{IsShape};
 ghost use Rattle.us_model.specs.Worlds.{new_sites, start, waits_of, Flushes};
 ghost use Rattle.us_model.specs.Executions.{noted_all};
-ghost use Rattle.us_order.specs.Ascending.{Ascends};
+ghost use Rattle.us_snapshots.specs.Ascending.{Ascends};
 ghost use Rattle.us_world.specs.Kept.{AllMarked, StandsFor, unmarked, site_of, HasStepped, after_at, passed_by, is_due, is_due_at, NoneDue, HasSkipped, HasCome, IsDelivered, LimitSays};
 ghost use Rattle.us_world.specs.Limits.{Delivers, is_opening, is_beginning, opened_in, begun_in};
 ghost use Rattle.us_world.specs.Lines.{waiting, IsBuilt, GoesBy, StoppedBy, IsDelivery, IsPerformed, IsStopped, report_of_kept};

@@ -1,5 +1,5 @@
-use Rattle.us_order.proofs.Por.{all_well_formed}
+use Rattle.us_order.proofs.Por.{well_formed}
 use Rattle.us_order.proofs.executions_are_well_formed.Goals as goal
 
 pub returns : goal.returns
-returns c = all_well_formed
+returns c = well_formed

@@ -1,5 +1,5 @@
 use Rattle.std.proofs.Common.{◌≡◌, drop}
-use Rattle.us_model.specs.Partitions.{after_own}
+use Rattle.us_history.specs.States.{after_own}
 use Rattle.us_site.proofs.reading.apply_own.Given as goal
 
 -- the rest of the effects go on from the state so far

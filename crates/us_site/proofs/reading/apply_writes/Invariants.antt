@@ -1,5 +1,5 @@
 use Rattle.std.proofs.Common.{◌≡◌, drop}
-use Rattle.us_model.specs.Partitions.{after_writes}
+use Rattle.us_history.specs.States.{after_writes}
 use Rattle.us_site.proofs.reading.apply_writes.Given as goal
 
 -- the rest of the writes go on from the state so far

@@ -1,5 +1,5 @@
 use Rattle.std.proofs.Common.{◌≡◌, ◌++◌, drop}
-use Rattle.us_model.specs.Sessions.{own_effects}
+use Rattle.us_history.specs.States.{own_effects}
 use Rattle.us_site.proofs.session.own_effects_on.Given as goal
 
 -- what was found and what the rest has are all

@@ -1,7 +1,7 @@
 use Rattle.std.proofs.Common.{◌≡◌, ◌∙◌, ◌++◌, ◌∷◌, [], ap, sym, length, arith, append-nil, slice_get, Some, refl}
 use Rattle.std.proofs.lemmas.Option.{slice_get_past, slice_get_read}
 use Rattle.std.proofs.lemmas.Result.{on_ok_weaker}
-use Rattle.us_model.specs.Executions.{Performed}
+use Rattle.us_history.specs.Histories.{Performed}
 use Rattle.us_world.specs.Found.{done_before}
 use Rattle.us_world.proofs.performances.add_copy.Goals as goal
 

@@ -1,5 +1,5 @@
 use Rattle.std.proofs.Common.{◌≡◌, ◌+◌, ◌∙◌, ◌++◌, ◌∷◌, [], ap, sym}
-use Rattle.us_model.specs.Executions.{committed_in}
+use Rattle.us_history.specs.Histories.{committed_in}
 use Rattle.us_world.proofs.Counted.{numbered_more}
 use Rattle.us_world.proofs.commits.Commits.push.Goals as goal
 

@@ -1,10 +1,13 @@
 -- The committed transactions in arbitration order.
-use Rattle.std.proofs.Common.{◌≡◌, ◌⊎◌, inl, inr, ⊎_elim, List, [], ◌∷◌, Bool, true, false, refl, sym, ap, ◌∙◌, subst, cond, true≢false}
+use Rattle.std.proofs.Common.{◌≡◌, ◌⊎◌, inl, inr, ⊎_elim, suc, List, [], ◌∷◌, length, Bool, true, false, refl, sym, ap, ◌∙◌, subst, arith, cond, true≢false}
 use Rattle.us_kind.specs.Words.{In}
+use Rattle.us_kind.specs.Histories.{all_from}
+use Rattle.us_kind.specs.Ascending.{all_in}
 use Rattle.us_kind.proofs.TestLemmas.{lex-apart, lex-not, tid_less-apart, tid_less-not}
 use Rattle.us_base.specs.Vector.{sum_of}
-use Rattle.us_model.specs.Executions.{Committed, ties, precedes, placed, arbitrated}
-use Rattle.us_order.proofs.Facts.{StandsEarlier}
+use Rattle.us_history.specs.Histories.{Committed}
+use Rattle.us_history.specs.Arbitration.{ties, precedes, placed, arbitrated}
+use Rattle.us_snapshots.proofs.Stands.{StandsEarlier, TidsApart}
 
 -- THE SAME TRANSACTIONS
 pub in_placed : (x c : Committed) (ds : List Committed) → In x (placed c ds) → (c ≡ x) ⊎ In x ds
@@ -108,3 +111,36 @@ pub stands_arbitrated : (c d : Committed) (cs : List Committed) → StandsEarlie
 stands_arbitrated c d [] h e = absurd h
 stands_arbitrated c d (x ∷ cs) (inl k) e = subst (λ y. StandsEarlier c d (placed y (arbitrated cs))) (sym k.0) (placed_first c d (arbitrated cs) (arbitrated_holds d cs k.1) e)
 stands_arbitrated c d (x ∷ cs) (inr h) e = placed_still c d x (arbitrated cs) (stands_arbitrated c d cs h e)
+
+-- transactions apart stay so
+placed_apart : (c : Committed) (ds : List Committed) → ((d : Committed) → In d ds → c.begun.tid ≡ d.begun.tid → ⊥) → TidsApart ds → TidsApart (placed c ds)
+placed_apart c [] new h = (tt, tt)
+placed_apart c (d ∷ ds) new h = on (precedes d c) (placed_apart c ds (λ x i. new x (inr i)) h.1)
+  where
+    first : (x : Committed) → In x (placed c ds) → d.begun.tid ≡ x.begun.tid → ⊥
+    first x i e = ⊎_elim
+        (λ s. new d (inl refl) (ap (λ (y : Committed). y.begun.tid) s ∙ sym e))
+        (λ j. all_in (λ (y : Committed). d.begun.tid ≡ y.begun.tid → ⊥) ds x h.0 j e)
+        (in_placed x c ds i)
+
+    on : (b : Bool) → TidsApart (placed c ds) → TidsApart (cond b (d ∷ placed c ds) (c ∷ d ∷ ds))
+    on true again = (all_from (λ (x : Committed). d.begun.tid ≡ x.begun.tid → ⊥) (placed c ds) first, again)
+    on false again = (all_from (λ (x : Committed). c.begun.tid ≡ x.begun.tid → ⊥) (d ∷ ds) new, h)
+
+pub arbitrated_apart : (cs : List Committed) → TidsApart cs → TidsApart (arbitrated cs)
+arbitrated_apart [] h = tt
+arbitrated_apart (c ∷ cs) h =
+    placed_apart c (arbitrated cs) (λ d i. all_in (λ (x : Committed). c.begun.tid ≡ x.begun.tid → ⊥) cs d h.0 (in_arbitrated d cs i)) (arbitrated_apart cs h.1)
+
+-- there are as many
+placed-length : (c : Committed) (ds : List Committed) → length (placed c ds) ≡ suc (length ds)
+placed-length c [] = refl
+placed-length c (d ∷ ds) = on (precedes d c) (placed-length c ds)
+  where
+    on : (b : Bool) → length (placed c ds) ≡ suc (length ds) → length (cond b (d ∷ placed c ds) (c ∷ d ∷ ds)) ≡ suc (length (d ∷ ds))
+    on true again = omega (arith, again)
+    on false again = refl
+
+pub arbitrated-length : (cs : List Committed) → length (arbitrated cs) ≡ length cs
+arbitrated-length [] = refl
+arbitrated-length (c ∷ cs) = placed-length c (arbitrated cs) ∙ ap suc (arbitrated-length cs)

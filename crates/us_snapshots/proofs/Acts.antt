@@ -6,7 +6,7 @@ use Rattle.std.proofs.lemmas.Bool.{cond_both, and_parts, eqb-true, lt-ltb}
 use Rattle.std.proofs.lemmas.Bool.Decides.{nat_tests}
 use Rattle.std.proofs.lemmas.List.Elements.{filter-append}
 use Rattle.us_kind.specs.Words.{In}
-use Rattle.us_kind.specs.Updates.{All, AllLater, Update, Stamped, state_after, updates_of as updates_in}
+use Rattle.us_kind.specs.Updates.{AllLater, Update, Stamped, state_after, updates_of as updates_in}
 use Rattle.us_kind.specs.declared.identity.Tid.{Tid}
 use Rattle.us_kind.specs.declared.identity.Tag.{Tag}
 use Rattle.us_kind.specs.declared.identity.Stamp.{Stamp}
@@ -16,32 +16,21 @@ use Rattle.us_kind.proofs.TestLemmas.{bytes_eq-true}
 use Rattle.us_base.specs.Vector.{at_most, sum_of}
 use Rattle.us_value.specs.declared.item.Item.{Item}
 use Rattle.us_value.specs.declared.item.Write.{Write}
+use Rattle.us_value.specs.declared.operation.Kind.{Kind}
 use Rattle.us_value.specs.declared.operation.Op.{Op}
 use Rattle.us_value.specs.declared.operation.Effect.{Effect}
 use Rattle.us_value.specs.declared.operation.State.{State}
 use Rattle.us_value.specs.Items.{item_eq}
-use Rattle.us_value.specs.Values.{is_update, op_fits, initial, updated, prepared}
+use Rattle.us_value.specs.Values.{is_update, initial, updated, prepared}
 use Rattle.us_value.proofs.KindLaws.{prepares-updates}
 use Rattle.us_exec.specs.declared.Done.{Done}
 use Rattle.us_exec.specs.Values.{updates_from}
-use Rattle.us_model.specs.declared.partition.LogTx.{LogTx}
-use Rattle.us_model.specs.Partitions.{after_writes, after_log, own_sum, after_own, kind_for}
-use Rattle.us_model.specs.Sessions.{own_effects, write_of}
-use Rattle.us_model.specs.State.{Spaces}
+use Rattle.us_history.specs.declared.LogTx.{LogTx}
+use Rattle.us_history.specs.States.{after_writes, after_log, own_sum, after_own, own_effects, kind_for, state_at}
+use Rattle.us_snapshots.specs.Acts.{Fits, AllFits, Act, act_of, write_for, writes_in, met_by, effect_at, acts_from, acts_of}
 
 pub item_eq-true : (a b : Item) → item_eq a b ≡ true → a ≡ b
 item_eq-true a b h = let e = and_parts _ _ h in let e0 = eqb-true _ _ e.0 in let e1 = bytes_eq-true _ _ e.1 in λ i. record { space = e0 i; id = e1 i }
-
--- THE STATE THAT AN OPERATION MEETS
-abbrev pub state_at : Spaces → List LogTx → Tid → List ℕ → Item → List (ℕ × Effect) → State
-state_at spaces log tid snapshot item own = after_own tid (after_log item snapshot (initial (kind_for spaces item.space)) log) own
-
--- the operation is of its item's kind
-abbrev pub Fits : Spaces → Item → Op → Type 0
-Fits spaces item op = op_fits (kind_for spaces item.space) op ≡ true
-
-abbrev pub AllFits : Spaces → List Done → Type 0
-AllFits spaces ds = All (λ (d : Done). Fits spaces d.item d.op) ds
 
 -- a state that some updates lead to
 record Reached (start s : State) : Type 0 where
@@ -63,10 +52,10 @@ reached_writes op start item sum tid (w ∷ ws) s h =
     let m : Stamp = record { sum = sum; tid = tid; place = w.place } in
     reached_writes op start item sum tid ws _ (cond_both (item_eq w.item item) (updated s w.effect m) s (Reached start) (λ _. reached_one op start s w.effect m h) (λ _. h))
 
-reached_log : (op : Op) (start : State) (item : Item) (sn : List ℕ) (log : List LogTx) (s : State) → Reached start s → Reached start (after_log item sn s log)
+reached_log : (op : Op) (start : State) (item : Item) (sn : List ℕ) (decided : List LogTx) (s : State) → Reached start s → Reached start (after_log item sn s decided)
 reached_log op start item sn [] s h = h
-reached_log op start item sn (t ∷ log) s h =
-    reached_log op start item sn log _
+reached_log op start item sn (t ∷ decided) s h =
+    reached_log op start item sn decided _
     (cond_both (at_most t.vector sn) (after_writes item (sum_of t.vector) t.tid s t.writes) s (Reached start) (λ _. reached_writes op start item (sum_of t.vector) t.tid t.writes s h) (λ _. h))
 
 reached_own : (op : Op) (start : State) (tid : Tid) (own : List (ℕ × Effect)) (s : State) → Reached start s → Reached start (after_own tid s own)
@@ -74,71 +63,33 @@ reached_own op start tid [] s h = h
 reached_own op start tid (e ∷ own) s h = reached_own op start tid own _ (reached_one op start s e.1 (record { sum = own_sum; tid = tid; place = e.0 }) h)
 
 -- of the operations of the item's kind exactly those that update have an effect
-prepares-here : (spaces : Spaces) (log : List LogTx) (tid : Tid) (sn : List ℕ) (item : Item) (own : List (ℕ × Effect)) (tag : Tag) (op : Op) → Fits spaces item op → (prepared tag op (state_at spaces log tid sn item own) ≡ None) ↔ (is_update op ≡ false)
-prepares-here spaces log tid sn item own tag op f =
+prepares-here : (spaces : List (ℕ × Kind)) (decided : List LogTx) (tid : Tid) (sn : List ℕ) (item : Item) (own : List (ℕ × Effect)) (tag : Tag) (op : Op) → Fits spaces item op → (prepared tag op (state_at spaces decided tid sn item own) ≡ None) ↔ (is_update op ≡ false)
+prepares-here spaces decided tid sn item own tag op f =
     let start = initial (kind_for spaces item.space) in
-    let r = reached_own op start tid own _ (reached_log op start item sn log start (record { us = []; is = refl })) in
+    let r = reached_own op start tid own _ (reached_log op start item sn decided start (record { us = []; is = refl })) in
     subst (λ s. (prepared tag op s ≡ None) ↔ (is_update op ≡ false)) (sym r.is) (prepares-updates (kind_for spaces item.space) r.us tag op f)
-
--- AN UPDATING OPERATION
-pub record Act : Type 0 where
-  pub place : ℕ
-  pub item : Item
-  pub op : Op
-  pub effect : Effect
-
-abbrev pub act_of : Done → ℕ → Option Effect → List Act
-act_of d n None = []
-act_of d n (Some e) = record { place = n; item = d.item; op = d.op; effect = e } ∷ []
-
--- its write
-abbrev pub write_for : Act → Write
-write_for a = record { item = a.item; place = a.place; effect = a.effect }
-
-abbrev pub writes_in : List Act → List Write
-writes_in [] = []
-writes_in (a ∷ acts) = write_for a ∷ writes_in acts
 
 pub writes_in-append : (xs ys : List Act) → writes_in (xs ++ ys) ≡ writes_in xs ++ writes_in ys
 writes_in-append [] ys = refl
 writes_in-append (x ∷ xs) ys = ap (λ l. write_for x ∷ l) (writes_in-append xs ys)
 
-pub writes_in-one : (d : Done) (n : ℕ) (o : Option Effect) → writes_in (act_of d n o) ≡ write_of d.item n o
-writes_in-one d n None = refl
-writes_in-one d n (Some e) = refl
-
 abbrev pub HasWrites : List Write → Type 0
 HasWrites [] = ⊥
 HasWrites (w ∷ ws) = Unit {0}
 
--- what an operation on an item meets after these of its transaction
-abbrev pub met_by : Spaces → List LogTx → Tid → List ℕ → Item → List Act → State
-met_by spaces log tid sn item acts = state_at spaces log tid sn item (own_effects item (writes_in acts))
-
-abbrev pub effect_at : Spaces → List LogTx → Tid → List ℕ → List Act → ℕ → Done → Option Effect
-effect_at spaces log tid sn acts n d = prepared (record { tid = tid; place = n }) d.op (met_by spaces log tid sn d.item acts)
-
--- the updating ones of a transaction's operations, the first of them at place n and after these
-abbrev pub acts_from : Spaces → List LogTx → Tid → List ℕ → ℕ → List Act → List Done → List Act
-acts_from spaces log tid sn n acts [] = acts
-acts_from spaces log tid sn n acts (d ∷ ds) = acts_from spaces log tid sn (n + 1) (acts ++ act_of d n (effect_at spaces log tid sn acts n d)) ds
-
-abbrev pub acts_of : Spaces → List LogTx → Tid → List ℕ → List Done → List Act
-acts_of spaces log tid sn ds = acts_from spaces log tid sn 1 [] ds
-
 -- one more operation
-pub acts_from-push : (spaces : Spaces) (log : List LogTx) (tid : Tid) (sn : List ℕ) (n : ℕ) (acts : List Act) (ds : List Done) (d : Done)
-    → acts_from spaces log tid sn n acts (ds ++ d ∷ []) ≡ acts_from spaces log tid sn n acts ds ++ act_of d (n + length ds) (effect_at spaces log tid sn (acts_from spaces log tid sn n acts ds) (n + length ds) d)
-acts_from-push spaces log tid sn n acts [] d = ap (λ k. acts ++ act_of d k (effect_at spaces log tid sn acts k d)) (omega arith)
-acts_from-push spaces log tid sn n acts (x ∷ ds) d =
-    let next = acts ++ act_of x n (effect_at spaces log tid sn acts n x) in
+pub acts_from-push : (spaces : List (ℕ × Kind)) (decided : List LogTx) (tid : Tid) (sn : List ℕ) (n : ℕ) (acts : List Act) (ds : List Done) (d : Done)
+    → acts_from spaces decided tid sn n acts (ds ++ d ∷ []) ≡ acts_from spaces decided tid sn n acts ds ++ act_of d (n + length ds) (effect_at spaces decided tid sn (acts_from spaces decided tid sn n acts ds) (n + length ds) d)
+acts_from-push spaces decided tid sn n acts [] d = ap (λ k. acts ++ act_of d k (effect_at spaces decided tid sn acts k d)) (omega arith)
+acts_from-push spaces decided tid sn n acts (x ∷ ds) d =
+    let next = acts ++ act_of x n (effect_at spaces decided tid sn acts n x) in
     let e : n + 1 + length ds ≡ n + length (x ∷ ds) = omega arith in
-    acts_from-push spaces log tid sn (n + 1) next ds d
-    ∙ ap (λ k. acts_from spaces log tid sn (n + 1) next ds ++ act_of d k (effect_at spaces log tid sn (acts_from spaces log tid sn (n + 1) next ds) k d)) e
+    acts_from-push spaces decided tid sn (n + 1) next ds d
+    ∙ ap (λ k. acts_from spaces decided tid sn (n + 1) next ds ++ act_of d k (effect_at spaces decided tid sn (acts_from spaces decided tid sn (n + 1) next ds) k d)) e
 
-acts_from-more : (spaces : Spaces) (log : List LogTx) (tid : Tid) (sn : List ℕ) (n : ℕ) (acts : List Act) (ds : List Done) → GoesOn acts (acts_from spaces log tid sn n acts ds)
-acts_from-more spaces log tid sn n acts [] = goes_nowhere acts
-acts_from-more spaces log tid sn n acts (d ∷ ds) = goes_further (goes_by acts _) (acts_from-more spaces log tid sn (n + 1) _ ds)
+acts_from-more : (spaces : List (ℕ × Kind)) (decided : List LogTx) (tid : Tid) (sn : List ℕ) (n : ℕ) (acts : List Act) (ds : List Done) → GoesOn acts (acts_from spaces decided tid sn n acts ds)
+acts_from-more spaces decided tid sn n acts [] = goes_nowhere acts
+acts_from-more spaces decided tid sn n acts (d ∷ ds) = goes_further (goes_by acts _) (acts_from-more spaces decided tid sn (n + 1) _ ds)
 
 -- WHO UPDATES HAS WRITES
 in_has : (a : Act) (acts : List Act) → In a acts → HasWrites (writes_in acts)
@@ -149,33 +100,33 @@ filled : (d : Done) (n : ℕ) (o : Option Effect) → (o ≡ None → ⊥) → (
 filled d n None h = absurd (h refl)
 filled d n (Some e) h = (record { place = n; item = d.item; op = d.op; effect = e }, inl refl)
 
-updates_act : (spaces : Spaces) (log : List LogTx) (tid : Tid) (sn : List ℕ) (n : ℕ) (acts : List Act) (ds : List Done) → AllFits spaces ds → list_any (λ (d : Done). is_update d.op) ds ≡ true → (a : Act) × In a (acts_from spaces log tid sn n acts ds)
-updates_act spaces log tid sn n acts [] fits h = absurd (true≢false (sym h))
-updates_act spaces log tid sn n acts (d ∷ ds) fits h = on (is_update d.op) refl h (updates_act spaces log tid sn (n + 1) (acts ++ act_of d n (effect_at spaces log tid sn acts n d)) ds fits.1)
+updates_act : (spaces : List (ℕ × Kind)) (decided : List LogTx) (tid : Tid) (sn : List ℕ) (n : ℕ) (acts : List Act) (ds : List Done) → AllFits spaces ds → list_any (λ (d : Done). is_update d.op) ds ≡ true → (a : Act) × In a (acts_from spaces decided tid sn n acts ds)
+updates_act spaces decided tid sn n acts [] fits h = absurd (true≢false (sym h))
+updates_act spaces decided tid sn n acts (d ∷ ds) fits h = on (is_update d.op) refl h (updates_act spaces decided tid sn (n + 1) (acts ++ act_of d n (effect_at spaces decided tid sn acts n d)) ds fits.1)
   where
-    here : is_update d.op ≡ true → (a : Act) × In a (acts_from spaces log tid sn n acts (d ∷ ds))
+    here : is_update d.op ≡ true → (a : Act) × In a (acts_from spaces decided tid sn n acts (d ∷ ds))
     here e =
-        let o = effect_at spaces log tid sn acts n d in
-        let f = filled d n o (λ k. true≢false (sym e ∙ (prepares-here spaces log tid sn d.item (own_effects d.item (writes_in acts)) (record { tid = tid; place = n }) d.op fits.0).0 k)) in
-        (f.0, in_later f.0 (acts_from-more spaces log tid sn (n + 1) (acts ++ act_of d n o) ds) (at_back f.0 acts (act_of d n o) f.1))
+        let o = effect_at spaces decided tid sn acts n d in
+        let f = filled d n o (λ k. true≢false (sym e ∙ (prepares-here spaces decided tid sn d.item (own_effects d.item (writes_in acts)) (record { tid = tid; place = n }) d.op fits.0).0 k)) in
+        (f.0, in_later f.0 (acts_from-more spaces decided tid sn (n + 1) (acts ++ act_of d n o) ds) (at_back f.0 acts (act_of d n o) f.1))
       where
         at_back : (a : Act) (xs ys : List Act) → In a ys → In a (xs ++ ys)
         at_back a [] ys i = i
         at_back a (x ∷ xs) ys i = inr (at_back a xs ys i)
 
-    on : (b : Bool) → is_update d.op ≡ b → (b || list_any (λ (d : Done). is_update d.op) ds) ≡ true → (list_any (λ (d : Done). is_update d.op) ds ≡ true → (a : Act) × In a (acts_from spaces log tid sn n acts (d ∷ ds))) → (a : Act) × In a (acts_from spaces log tid sn n acts (d ∷ ds))
+    on : (b : Bool) → is_update d.op ≡ b → (b || list_any (λ (d : Done). is_update d.op) ds) ≡ true → (list_any (λ (d : Done). is_update d.op) ds ≡ true → (a : Act) × In a (acts_from spaces decided tid sn n acts (d ∷ ds))) → (a : Act) × In a (acts_from spaces decided tid sn n acts (d ∷ ds))
     on true e h again = here e
     on false e h again = again h
 
-pub update-writes : (spaces : Spaces) (log : List LogTx) (tid : Tid) (sn : List ℕ) (ds : List Done) → AllFits spaces ds → list_any (λ (d : Done). is_update d.op) ds ≡ true → HasWrites (writes_in (acts_of spaces log tid sn ds))
-update-writes spaces log tid sn ds fits h = let a = updates_act spaces log tid sn 1 [] ds fits h in in_has a.0 (acts_of spaces log tid sn ds) a.1
+pub update-writes : (spaces : List (ℕ × Kind)) (decided : List LogTx) (tid : Tid) (sn : List ℕ) (ds : List Done) → AllFits spaces ds → list_any (λ (d : Done). is_update d.op) ds ≡ true → HasWrites (writes_in (acts_of spaces decided tid sn ds))
+update-writes spaces decided tid sn ds fits h = let a = updates_act spaces decided tid sn 1 [] ds fits h in in_has a.0 (acts_of spaces decided tid sn ds) a.1
 
-act_updates : (spaces : Spaces) (log : List LogTx) (tid : Tid) (sn : List ℕ) (n : ℕ) (acts : List Act) (ds : List Done) → AllFits spaces ds → (a : Act) → In a (acts_from spaces log tid sn n acts ds) → In a acts ⊎ (list_any (λ (d : Done). is_update d.op) ds ≡ true)
-act_updates spaces log tid sn n acts [] fits a i = inl i
-act_updates spaces log tid sn n acts (d ∷ ds) fits a i = ⊎_elim
-    (λ j. ⊎_elim (λ k. inl k) (λ k. inr (first (effect_at spaces log tid sn acts n d) (prepares-here spaces log tid sn d.item (own_effects d.item (writes_in acts)) (record { tid = tid; place = n }) d.op fits.0).1 k)) (in_either a acts _ j))
+act_updates : (spaces : List (ℕ × Kind)) (decided : List LogTx) (tid : Tid) (sn : List ℕ) (n : ℕ) (acts : List Act) (ds : List Done) → AllFits spaces ds → (a : Act) → In a (acts_from spaces decided tid sn n acts ds) → In a acts ⊎ (list_any (λ (d : Done). is_update d.op) ds ≡ true)
+act_updates spaces decided tid sn n acts [] fits a i = inl i
+act_updates spaces decided tid sn n acts (d ∷ ds) fits a i = ⊎_elim
+    (λ j. ⊎_elim (λ k. inl k) (λ k. inr (first (effect_at spaces decided tid sn acts n d) (prepares-here spaces decided tid sn d.item (own_effects d.item (writes_in acts)) (record { tid = tid; place = n }) d.op fits.0).1 k)) (in_either a acts _ j))
     (λ h. inr (later (is_update d.op) h))
-    (act_updates spaces log tid sn (n + 1) (acts ++ act_of d n (effect_at spaces log tid sn acts n d)) ds fits.1 a i)
+    (act_updates spaces decided tid sn (n + 1) (acts ++ act_of d n (effect_at spaces decided tid sn acts n d)) ds fits.1 a i)
   where
     any : Bool
     any = list_any (λ (d : Done). is_update d.op) ds
@@ -192,11 +143,11 @@ act_updates spaces log tid sn n acts (d ∷ ds) fits a i = ⊎_elim
     first : (o : Option Effect) → (is_update d.op ≡ false → o ≡ None) → In a (act_of d n o) → (is_update d.op || any) ≡ true
     first o h k = rw (updates o h k (is_update d.op) refl) refl
 
-pub act-updates : (spaces : Spaces) (log : List LogTx) (tid : Tid) (sn : List ℕ) (ds : List Done) → AllFits spaces ds → (a : Act) → In a (acts_of spaces log tid sn ds) → list_any (λ (d : Done). is_update d.op) ds ≡ true
-act-updates spaces log tid sn ds fits a i = ⊎_elim (λ n. absurd n) (λ h. h) (act_updates spaces log tid sn 1 [] ds fits a i)
+pub act-updates : (spaces : List (ℕ × Kind)) (decided : List LogTx) (tid : Tid) (sn : List ℕ) (ds : List Done) → AllFits spaces ds → (a : Act) → In a (acts_of spaces decided tid sn ds) → list_any (λ (d : Done). is_update d.op) ds ≡ true
+act-updates spaces decided tid sn ds fits a i = ⊎_elim (λ n. absurd n) (λ h. h) (act_updates spaces decided tid sn 1 [] ds fits a i)
 
-pub writes-update : (spaces : Spaces) (log : List LogTx) (tid : Tid) (sn : List ℕ) (ds : List Done) → AllFits spaces ds → HasWrites (writes_in (acts_of spaces log tid sn ds)) → list_any (λ (d : Done). is_update d.op) ds ≡ true
-writes-update spaces log tid sn ds fits h = on (acts_of spaces log tid sn ds) h (act-updates spaces log tid sn ds fits)
+pub writes-update : (spaces : List (ℕ × Kind)) (decided : List LogTx) (tid : Tid) (sn : List ℕ) (ds : List Done) → AllFits spaces ds → HasWrites (writes_in (acts_of spaces decided tid sn ds)) → list_any (λ (d : Done). is_update d.op) ds ≡ true
+writes-update spaces decided tid sn ds fits h = on (acts_of spaces decided tid sn ds) h (act-updates spaces decided tid sn ds fits)
   where
     on : (acts : List Act) → HasWrites (writes_in acts) → ((a : Act) → In a acts → list_any (λ (d : Done). is_update d.op) ds ≡ true) → list_any (λ (d : Done). is_update d.op) ds ≡ true
     on [] h f = absurd h
@@ -208,14 +159,14 @@ abbrev pub earlier : Act → List Act → List Act
 earlier a acts = filter (λ (b : Act). nat_lt b.place a.place) acts
 
 -- its effect was prepared at what it met
-abbrev pub IsMade : Spaces → List LogTx → Tid → List ℕ → List Act → Act → Type 0
-IsMade spaces log tid sn acts a = prepared (record { tid = tid; place = a.place }) a.op (met_by spaces log tid sn a.item (earlier a acts)) ≡ Some a.effect
+abbrev pub IsMade : List (ℕ × Kind) → List LogTx → Tid → List ℕ → List Act → Act → Type 0
+IsMade spaces decided tid sn acts a = prepared (record { tid = tid; place = a.place }) a.op (met_by spaces decided tid sn a.item (earlier a acts)) ≡ Some a.effect
 
-pub record AreActs (spaces : Spaces) (log : List LogTx) (tid : Tid) (sn : List ℕ) (n : ℕ) (acts : List Act) : Type 0 where
+pub record AreActs (spaces : List (ℕ × Kind)) (decided : List LogTx) (tid : Tid) (sn : List ℕ) (n : ℕ) (acts : List Act) : Type 0 where
   pub below : (a : Act) → In a acts → a.place < n
   pub ascending : AllLater (λ (a b : Act). a.place < b.place) acts
   pub fit : (a : Act) → In a acts → Fits spaces a.item a.op
-  pub made : (a : Act) → In a acts → IsMade spaces log tid sn acts a
+  pub made : (a : Act) → In a acts → IsMade spaces decided tid sn acts a
 
 earlier-old : (a new : Act) (acts : List Act) → nat_lt new.place a.place ≡ false → earlier a (acts ++ new ∷ []) ≡ earlier a acts
 earlier-old a new acts h = filter-append (λ (b : Act). nat_lt b.place a.place) acts (new ∷ []) ∙ ap (λ l. earlier a acts ++ l) (on (nat_lt new.place a.place) h) ∙ append-nil (earlier a acts)
@@ -235,13 +186,13 @@ all_earlier a (b ∷ acts) h = on (nat_lt b.place a.place) (lt-ltb _ _ (h b (inl
 not_less : (a b : ℕ) → a < b + 1 → nat_lt b a ≡ false
 not_less a b h = grind (arith, nat_tests)
 
-acts_push : (spaces : Spaces) (log : List LogTx) (tid : Tid) (sn : List ℕ) (n : ℕ) (acts : List Act) (d : Done) (o : Option Effect) → effect_at spaces log tid sn acts n d ≡ o → Fits spaces d.item d.op → AreActs spaces log tid sn n acts → AreActs spaces log tid sn (n + 1) (acts ++ act_of d n o)
-acts_push spaces log tid sn n acts d None e f h = subst (AreActs spaces log tid sn (n + 1)) (sym (append-nil acts)) (record { below = λ a i. omega (arith, h.below a i); ascending = h.ascending; fit = h.fit; made = h.made })
-acts_push spaces log tid sn n acts d (Some x) e f h = record {
+acts_push : (spaces : List (ℕ × Kind)) (decided : List LogTx) (tid : Tid) (sn : List ℕ) (n : ℕ) (acts : List Act) (d : Done) (o : Option Effect) → effect_at spaces decided tid sn acts n d ≡ o → Fits spaces d.item d.op → AreActs spaces decided tid sn n acts → AreActs spaces decided tid sn (n + 1) (acts ++ act_of d n o)
+acts_push spaces decided tid sn n acts d None e f h = subst (AreActs spaces decided tid sn (n + 1)) (sym (append-nil acts)) (record { below = λ a i. omega (arith, h.below a i); ascending = h.ascending; fit = h.fit; made = h.made })
+acts_push spaces decided tid sn n acts d (Some x) e f h = record {
   below = in_push (λ (a : Act). a.place < n + 1) acts new (λ a i. omega (arith, h.below a i)) (omega arith);
   ascending = later_push (λ (a b : Act). a.place < b.place) acts new h.ascending h.below;
   fit = in_push (λ (a : Act). Fits spaces a.item a.op) acts new h.fit f;
-  made = in_push (IsMade spaces log tid sn (acts ++ new ∷ [])) acts new
+  made = in_push (IsMade spaces decided tid sn (acts ++ new ∷ [])) acts new
       (λ a i. subst (AtActs a) (sym (earlier-old a new acts (not_less a.place n (omega (arith, h.below a i))))) (h.made a i))
       (subst (AtActs new) (sym (earlier-old new new acts (not_less n n (omega arith)) ∙ all_earlier new acts h.below)) e);
 }
@@ -250,17 +201,17 @@ acts_push spaces log tid sn n acts d (Some x) e f h = record {
     new = record { place = n; item = d.item; op = d.op; effect = x }
 
     AtActs : Act → List Act → Type 0
-    AtActs a bs = prepared (record { tid = tid; place = a.place }) a.op (met_by spaces log tid sn a.item bs) ≡ Some a.effect
+    AtActs a bs = prepared (record { tid = tid; place = a.place }) a.op (met_by spaces decided tid sn a.item bs) ≡ Some a.effect
 
-are_acts_from : (spaces : Spaces) (log : List LogTx) (tid : Tid) (sn : List ℕ) (n : ℕ) (acts : List Act) (ds : List Done) → AllFits spaces ds → AreActs spaces log tid sn n acts → AreActs spaces log tid sn (n + length ds) (acts_from spaces log tid sn n acts ds)
-are_acts_from spaces log tid sn n acts [] fits h = subst (λ k. AreActs spaces log tid sn k acts) (omega arith) h
-are_acts_from spaces log tid sn n acts (d ∷ ds) fits h =
+are_acts_from : (spaces : List (ℕ × Kind)) (decided : List LogTx) (tid : Tid) (sn : List ℕ) (n : ℕ) (acts : List Act) (ds : List Done) → AllFits spaces ds → AreActs spaces decided tid sn n acts → AreActs spaces decided tid sn (n + length ds) (acts_from spaces decided tid sn n acts ds)
+are_acts_from spaces decided tid sn n acts [] fits h = subst (λ k. AreActs spaces decided tid sn k acts) (omega arith) h
+are_acts_from spaces decided tid sn n acts (d ∷ ds) fits h =
     let e : n + 1 + length ds ≡ n + length (d ∷ ds) = omega arith in
-    subst (λ k. AreActs spaces log tid sn k (acts_from spaces log tid sn n acts (d ∷ ds))) e
-    (are_acts_from spaces log tid sn (n + 1) _ ds fits.1 (acts_push spaces log tid sn n acts d (effect_at spaces log tid sn acts n d) refl fits.0 h))
+    subst (λ k. AreActs spaces decided tid sn k (acts_from spaces decided tid sn n acts (d ∷ ds))) e
+    (are_acts_from spaces decided tid sn (n + 1) _ ds fits.1 (acts_push spaces decided tid sn n acts d (effect_at spaces decided tid sn acts n d) refl fits.0 h))
 
-pub are_acts : (spaces : Spaces) (log : List LogTx) (tid : Tid) (sn : List ℕ) (ds : List Done) → AllFits spaces ds → AreActs spaces log tid sn (1 + length ds) (acts_of spaces log tid sn ds)
-are_acts spaces log tid sn ds fits = are_acts_from spaces log tid sn 1 [] ds fits (record { below = λ a i. absurd i; ascending = tt; fit = λ a i. absurd i; made = λ a i. absurd i })
+pub are_acts : (spaces : List (ℕ × Kind)) (decided : List LogTx) (tid : Tid) (sn : List ℕ) (ds : List Done) → AllFits spaces ds → AreActs spaces decided tid sn (1 + length ds) (acts_of spaces decided tid sn ds)
+are_acts spaces decided tid sn ds fits = are_acts_from spaces decided tid sn 1 [] ds fits (record { below = λ a i. absurd i; ascending = tt; fit = λ a i. absurd i; made = λ a i. absurd i })
 
 -- THEIR UPDATES OF AN ITEM, under stamps with this sum
 abbrev pub stamped_as : ℕ → Tid → Act → Stamped Op Effect
@@ -326,16 +277,16 @@ updates_from-one sum tid item n d ds (Some e) h = on (item_eq d.item item) (is_u
     on false true k = refl
     on b false k = absurd (let f = h.1 k in cc)
 
-updates_from-are : (spaces : Spaces) (log : List LogTx) (sum : ℕ) (tid : Tid) (sn : List ℕ) (item : Item) (n : ℕ) (acts : List Act) (ds : List Done) → AllFits spaces ds
-    → updates_in (stamped sum tid item (acts_from spaces log tid sn n acts ds)) ≡ updates_in (stamped sum tid item acts) ++ updates_from n tid item ds
-updates_from-are spaces log sum tid sn item n acts [] fits = sym (append-nil (updates_in (stamped sum tid item acts)))
-updates_from-are spaces log sum tid sn item n acts (d ∷ ds) fits =
-    let o = effect_at spaces log tid sn acts n d in
-    updates_from-are spaces log sum tid sn item (n + 1) (acts ++ act_of d n o) ds fits.1
+updates_from-are : (spaces : List (ℕ × Kind)) (decided : List LogTx) (sum : ℕ) (tid : Tid) (sn : List ℕ) (item : Item) (n : ℕ) (acts : List Act) (ds : List Done) → AllFits spaces ds
+    → updates_in (stamped sum tid item (acts_from spaces decided tid sn n acts ds)) ≡ updates_in (stamped sum tid item acts) ++ updates_from n tid item ds
+updates_from-are spaces decided sum tid sn item n acts [] fits = sym (append-nil (updates_in (stamped sum tid item acts)))
+updates_from-are spaces decided sum tid sn item n acts (d ∷ ds) fits =
+    let o = effect_at spaces decided tid sn acts n d in
+    updates_from-are spaces decided sum tid sn item (n + 1) (acts ++ act_of d n o) ds fits.1
     ∙ ap (λ us. updates_in us ++ updates_from (n + 1) tid item ds) (stamped-append sum tid item acts (act_of d n o))
     ∙ ap (λ us. us ++ updates_from (n + 1) tid item ds) (updates_in-append (stamped sum tid item acts) (stamped sum tid item (act_of d n o)))
     ∙ append_assoc (updates_in (stamped sum tid item acts)) (updates_in (stamped sum tid item (act_of d n o))) (updates_from (n + 1) tid item ds)
-    ∙ ap (λ us. updates_in (stamped sum tid item acts) ++ us) (updates_from-one sum tid item n d ds o (prepares-here spaces log tid sn d.item (own_effects d.item (writes_in acts)) (record { tid = tid; place = n }) d.op fits.0))
+    ∙ ap (λ us. updates_in (stamped sum tid item acts) ++ us) (updates_from-one sum tid item n d ds o (prepares-here spaces decided tid sn d.item (own_effects d.item (writes_in acts)) (record { tid = tid; place = n }) d.op fits.0))
 
-pub updates-are : (spaces : Spaces) (log : List LogTx) (sum : ℕ) (tid : Tid) (sn : List ℕ) (item : Item) (ds : List Done) → AllFits spaces ds → updates_in (stamped sum tid item (acts_of spaces log tid sn ds)) ≡ updates_from 1 tid item ds
-updates-are spaces log sum tid sn item ds fits = updates_from-are spaces log sum tid sn item 1 [] ds fits
+pub updates-are : (spaces : List (ℕ × Kind)) (decided : List LogTx) (sum : ℕ) (tid : Tid) (sn : List ℕ) (item : Item) (ds : List Done) → AllFits spaces ds → updates_in (stamped sum tid item (acts_of spaces decided tid sn ds)) ≡ updates_from 1 tid item ds
+updates-are spaces decided sum tid sn item ds fits = updates_from-are spaces decided sum tid sn item 1 [] ds fits

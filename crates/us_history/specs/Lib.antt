@@ -1,0 +1,5 @@
+pub mod Histories
+pub mod Pasts
+pub mod Arbitration
+pub mod Executions
+pub mod States

@@ -1,0 +1,4 @@
+pub mod Acts
+pub mod Snapshots
+pub mod Ascending
+pub mod Laws
