@@ -5,3 +5,4 @@ pub mod AnswerLengths
 pub mod ValueTests
 pub mod ListLaws
 pub mod EffectLaws
+pub mod ListLoops

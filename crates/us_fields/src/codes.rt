@@ -50,3 +50,23 @@ pub(crate) mod answer_code {
 
     pub(crate) const BIT: u8 = 5;
 }
+
+/// The greatest place of an operation in its transaction.
+pub(crate) const PLACES: u8 = Limits::OPERATIONS as u8;
+
+/// The codes of effects.
+pub(crate) mod effect_code {
+    pub(crate) const REGISTER_WRITE: u8 = 1;
+
+    pub(crate) const COUNTER_ADD: u8 = 2;
+
+    pub(crate) const SET_ADD: u8 = 3;
+
+    pub(crate) const SET_REMOVE: u8 = 4;
+
+    pub(crate) const ENABLE: u8 = 5;
+
+    pub(crate) const DISABLE: u8 = 6;
+
+    pub(crate) const MULTI_WRITE: u8 = 7;
+}

@@ -2,15 +2,23 @@
 #![tactic(auto)]
 
 mod codes;
+mod effect;
 mod fault;
+mod field;
 mod laws;
+mod list;
+mod order;
 mod read;
 mod told;
 mod values;
 mod write;
 
+pub use effect::{put_writes, take_writes};
 pub use fault::DecodeFault;
+pub use field::Field;
 pub use laws::{answers_are_as_long, fields_are_read_as_spelled};
+pub use list::{copies_of, list_len, put_list, take_list};
+pub use order::{Order, are_in_order};
 pub use read::{take_answer, take_item, take_op};
 pub use told::answer_fits;
 pub use write::{frame_of, put_answer, put_item, put_op};
