@@ -3,10 +3,10 @@ use Rattle.std.proofs.Common.{◌≡◌, ℕ, zero, suc, ◌+◌, ◌^◌, ◌<�
 use Rattle.std.specs.Int.{w8, w16, w64, to_be_bytes}
 use Rattle.std.specs.List.{AllByRecursion}
 use Rattle.std.proofs.lemmas.Bool.{eqb-true, eq-eqb, cases_lt}
-use Rattle.us_wire.specs.Fields.{number_at}
+use Rattle.us_wire.specs.Fields.{StandsAt, number_at}
 use Rattle.us_wire.specs.Readings.{Reading, and_then, if_passes, many_at, many_spelling, number_between_at, largest_number, Reads, ReadsOn, IsBetween}
-use Rattle.us_wire.proofs.Spelled.{wide8, wide16, wide64, reads_numbers}
-use Rattle.us_wire.proofs.Combined.{on, reads, refit, refit_on, reads_then, reads_made, reads_made_two, reads_nothing, reads_none, reads_either, reads_passing, reads_many, reads_between}
+use Rattle.us_wire.proofs.Spelled.{some, wide8, wide16, wide64, reads_numbers}
+use Rattle.us_wire.proofs.Combined.{on, split, found_one, reads, refit, refit_on, reads_then, reads_made, reads_made_two, reads_nothing, reads_none, reads_either, reads_passing, reads_many, reads_between}
 use Rattle.us_fields.specs.Lists.{both_at, made_at, coded_at, list_spelling, ListFits, list_at, is_in_order, ordered_at}
 
 -- ---- bytes and numbers
@@ -31,6 +31,31 @@ pub reads_both : {A B : Type 0} (F : A → Type 0) (s : A → List ℕ) (r : Rea
 reads_both {A = A} {B = B} F s r G t q one two =
     reads_made_two F s r G t q (λ (a : A) (b : B). (a, b)) (λ (p : A × B). F p.0 × G p.1) (λ p. s p.0 ++ t p.1) one two
     (λ a b f g. (f, g)) (λ a b f g. refl) (λ p h. (p.0, p.1, refl, h.0, h.1))
+
+-- one value made of what is read at a place within the input
+reads_made_on : {A B : Type 0} (F : A → Type 0) (s : A → List ℕ) (r : Reading A) (make : A → B) (G : B → Type 0) (t : B → List ℕ)
+    → ReadsOn F s r → ((a : A) → F a → G (make a)) → ((a : A) → F a → s a ≡ t (make a)) → ((b : B) → G b → (a : A) × (make a ≡ b) × F a) → ReadsOn G t (made_at make r)
+reads_made_on {A = A} {B = B} F s r make G t law to same back = record {
+  found = λ input at b next are within e.
+      let p = split (r input at) (λ a next. Some (make a, next)) b next e in
+      let f = law.found input at p.first p.mid are within p.is in
+      let one = found_one (make p.first) b p.mid next p.rest in
+      let P : B → ℕ → Type 0 = λ c n. StandsAt (t c) input at n × G c in
+      let stands : StandsAt (t (make p.first)) input at p.mid = subst (λ (w : List ℕ). StandsAt w input at p.mid) (same p.first f.1) f.0 in
+      subst (λ (n : ℕ). P b n) one.1 (subst (λ (c : B). P c p.mid) one.0 (stands, to p.first f.1));
+  again = λ input at b next fits stands.
+      let p = back b fits in
+      let spelled : s p.0 ≡ t b = same p.0 p.2 ∙ ap t p.1 in
+      ap (λ (o : Option (A × ℕ)). and_then o (λ a next. Some (make a, next))) (law.again input at p.0 next p.2 (subst (λ (w : List ℕ). StandsAt w input at next) (sym spelled) stands))
+      ∙ ap (λ (c : B). some {A = B × ℕ} (c, next)) p.1;
+}
+
+-- a field, and another whose spelling may be empty
+pub reads_both_on : {A B : Type 0} (F : A → Type 0) (s : A → List ℕ) (r : Reading A) (G : B → Type 0) (t : B → List ℕ) (q : Reading B) → Reads F s r → ReadsOn G t q
+    → Reads {A = A × B} (λ p. F p.0 × G p.1) (λ p. s p.0 ++ t p.1) (both_at r q)
+reads_both_on {A = A} {B = B} F s r G t q one two =
+    reads_then F s r (λ (p : A × B). p.0) (λ p. G p.1) (λ p. t p.1) (λ a. made_at (λ b. (a, b)) q) one
+    (λ a f. reads_made_on G t q (λ (b : B). (a, b)) (λ (p : A × B). (p.0 ≡ a) × G p.1) (λ p. t p.1) two (λ b g. (refl, g)) (λ b g. refl) (λ p h. (p.1, (λ i. (sym h.0 i, p.1)), h.1)))
 
 -- ---- a code, and what it tells
 

@@ -1,6 +1,8 @@
-//! Packets between actors.
+//! Packets between actors, and how frames spell them.
 #![tactic(auto)]
 
+mod laws;
 mod message;
 
-pub use message::{Actor, Form, Message, Packet, Version};
+pub use laws::packets_are_read_as_spelled;
+pub use message::{Actor, Form, LogEntry, Message, Outcome, OutcomeEnd, Packet, Page, Verdict, Version};
