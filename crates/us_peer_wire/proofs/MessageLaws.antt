@@ -44,7 +44,7 @@ ReadsTag shape n read = ReadsOn (IsMessage shape n) (message_fields shape) read
 
 from_get : (shape : Shape) (m : Message) → message_tag m ≡ 1 → MessageFits shape m → (p : Tid × (ℕ × (ℕ × (List ℕ × (Item × (Op × (List (ℕ × Effect)))))))) × (message.Get p.0 p.1.0 p.1.1.0 p.1.1.1.0 p.1.1.1.1.0 p.1.1.1.1.1.0 p.1.1.1.1.1.1 ≡ m) × (TidFits shape p.0 × ((p.1.0 ≤ 255) × (IsNumber p.1.1.0 × (VectorFits shape p.1.1.1.0 × (ItemFits p.1.1.1.1.0 × (OpFits p.1.1.1.1.1.0 × ListFits 0 longest_list (OwnFits shape) p.1.1.1.1.1.1))))))
 from_get shape (message.Get tid place at snapshot item op own) e f = ((tid, (place, (at, (snapshot, (item, (op, own)))))), refl, f)
-from_get shape _ e f = absurd (cc)
+from_get shape _ e f = absurd (omega (arith, e))
 
 reads_get : (shape : Shape) → IsShape shape → (n : ℕ) → n ≡ 1 → ReadsTag shape n (get_at shape)
 unfolding get_at
@@ -60,7 +60,7 @@ reads_get shape is n e =
 
 from_version : (shape : Shape) (m : Message) → message_tag m ≡ 2 → MessageFits shape m → (p : Tid × (ℕ × (ℕ × Form))) × (message.Version (record { tid = p.0; place = p.1.0; at = p.1.1.0; form = p.1.1.1 }) ≡ m) × (TidFits shape p.0 × ((p.1.0 ≤ 255) × (IsNumber p.1.1.0 × FormFits shape p.1.1.1)))
 from_version shape (message.Version version) e f = ((version.tid, (version.place, (version.at, version.form))), refl, f)
-from_version shape _ e f = absurd (cc)
+from_version shape _ e f = absurd (omega (arith, e))
 
 reads_version : (shape : Shape) → IsShape shape → (n : ℕ) → n ≡ 2 → ReadsTag shape n (version_at shape)
 unfolding version_at
@@ -73,7 +73,7 @@ reads_version shape is n e =
 
 from_prepare : (shape : Shape) (m : Message) → message_tag m ≡ 3 → MessageFits shape m → (p : Tid × (List ℕ × List Write)) × (message.Prepare p.0 p.1.0 p.1.1 ≡ m) × (TidFits shape p.0 × (VectorFits shape p.1.0 × WritesFit shape p.1.1))
 from_prepare shape (message.Prepare tid snapshot writes) e f = ((tid, (snapshot, writes)), refl, f)
-from_prepare shape _ e f = absurd (cc)
+from_prepare shape _ e f = absurd (omega (arith, e))
 
 reads_prepare : (shape : Shape) → IsShape shape → (n : ℕ) → n ≡ 3 → ReadsTag shape n (prepare_at shape)
 unfolding prepare_at
@@ -85,7 +85,7 @@ reads_prepare shape is n e =
 
 from_prepared : (shape : Shape) (m : Message) → message_tag m ≡ 4 → MessageFits shape m → (p : Tid × ℕ) × (message.Prepared p.0 p.1 ≡ m) × (TidFits shape p.0 × IsNumber p.1)
 from_prepared shape (message.Prepared tid ts) e f = ((tid, ts), refl, f)
-from_prepared shape _ e f = absurd (cc)
+from_prepared shape _ e f = absurd (omega (arith, e))
 
 reads_prepared : (shape : Shape) → IsShape shape → (n : ℕ) → n ≡ 4 → ReadsTag shape n (prepared_at shape)
 unfolding prepared_at
@@ -96,7 +96,7 @@ reads_prepared shape is n e =
 
 from_commit : (shape : Shape) (m : Message) → message_tag m ≡ 5 → MessageFits shape m → (p : Tid × List ℕ) × (message.Commit p.0 p.1 ≡ m) × (TidFits shape p.0 × VectorFits shape p.1)
 from_commit shape (message.Commit tid vector) e f = ((tid, vector), refl, f)
-from_commit shape _ e f = absurd (cc)
+from_commit shape _ e f = absurd (omega (arith, e))
 
 reads_commit : (shape : Shape) → IsShape shape → (n : ℕ) → n ≡ 5 → ReadsTag shape n (commit_at shape)
 unfolding commit_at
@@ -107,7 +107,7 @@ reads_commit shape is n e =
 
 from_replicate : (shape : Shape) (m : Message) → message_tag m ≡ 6 → MessageFits shape m → (p : ℕ × (ℕ × (ℕ × (List (Tid × List ℕ × List Write))))) × (message.Replicate p.0 p.1.0 p.1.1.0 p.1.1.1 ≡ m) × ((IsOneOf (sites_of shape) p.0 × (IsNumber p.1.0 × (IsNumber p.1.1.0 × ListFits 0 most_slots (CommittedFits shape) p.1.1.1))) × (is_in_order (committed_before p.0) p.1.1.1 ≡ true))
 from_replicate shape (message.Replicate origin lo hi txs) e f = ((origin, (lo, (hi, txs))), refl, ((f.0, (f.1.0, (f.1.1.0, f.1.1.1.0))), f.1.1.1.1))
-from_replicate shape _ e f = absurd (cc)
+from_replicate shape _ e f = absurd (omega (arith, e))
 
 reads_replicate : (shape : Shape) → IsShape shape → (n : ℕ) → n ≡ 6 → ReadsTag shape n (replicate_at shape)
 unfolding replicate_at
@@ -125,7 +125,7 @@ reads_replicate shape is n e =
 
 from_known_local : (shape : Shape) (m : Message) → message_tag m ≡ 7 → MessageFits shape m → (p : List ℕ × List ℕ) × (message.KnownLocal p.0 p.1 ≡ m) × (VectorFits shape p.0 × VectorFits shape p.1)
 from_known_local shape (message.KnownLocal known horizon) e f = ((known, horizon), refl, f)
-from_known_local shape _ e f = absurd (cc)
+from_known_local shape _ e f = absurd (omega (arith, e))
 
 reads_known_local : (shape : Shape) → IsShape shape → (n : ℕ) → n ≡ 7 → ReadsTag shape n (known_local_at shape)
 unfolding known_local_at
@@ -136,7 +136,7 @@ reads_known_local shape is n e =
 
 from_stable : (shape : Shape) (m : Message) → message_tag m ≡ 8 → MessageFits shape m → (p : List ℕ) × (message.Stable p ≡ m) × (VectorFits shape p)
 from_stable shape (message.Stable vector) e f = (vector, refl, f)
-from_stable shape _ e f = absurd (cc)
+from_stable shape _ e f = absurd (omega (arith, e))
 
 reads_stable : (shape : Shape) → IsShape shape → (n : ℕ) → n ≡ 8 → ReadsTag shape n (made_at (λ p. message.Stable p) (vector_at shape))
 reads_stable shape is n e =
@@ -144,7 +144,7 @@ reads_stable shape is n e =
 
 from_known_global : (shape : Shape) (m : Message) → message_tag m ≡ 9 → MessageFits shape m → (p : List ℕ) × (message.KnownGlobal p ≡ m) × (VectorFits shape p)
 from_known_global shape (message.KnownGlobal vector) e f = (vector, refl, f)
-from_known_global shape _ e f = absurd (cc)
+from_known_global shape _ e f = absurd (omega (arith, e))
 
 reads_known_global : (shape : Shape) → IsShape shape → (n : ℕ) → n ≡ 9 → ReadsTag shape n (made_at (λ p. message.KnownGlobal p) (vector_at shape))
 reads_known_global shape is n e =
@@ -152,7 +152,7 @@ reads_known_global shape is n e =
 
 from_submit : (shape : Shape) (m : Message) → message_tag m ≡ 10 → MessageFits shape m → (p : LogEntry) × (message.Submit p ≡ m) × (EntryFits shape p)
 from_submit shape (message.Submit entry) e f = (entry, refl, f)
-from_submit shape _ e f = absurd (cc)
+from_submit shape _ e f = absurd (omega (arith, e))
 
 reads_submit : (shape : Shape) → IsShape shape → (n : ℕ) → n ≡ 10 → ReadsTag shape n (made_at (λ p. message.Submit p) (entry_at shape))
 reads_submit shape is n e =
@@ -160,7 +160,7 @@ reads_submit shape is n e =
 
 from_outcome : (shape : Shape) (m : Message) → message_tag m ≡ 11 → MessageFits shape m → (p : Tid × (ℕ × OutcomeEnd)) × (message.Outcome (record { tid = p.0; slot = p.1.0; end = p.1.1 }) ≡ m) × (TidFits shape p.0 × (IsNumber p.1.0 × EndFits shape p.1.1))
 from_outcome shape (message.Outcome outcome) e f = ((outcome.tid, (outcome.slot, outcome.end)), refl, f)
-from_outcome shape _ e f = absurd (cc)
+from_outcome shape _ e f = absurd (omega (arith, e))
 
 reads_outcome : (shape : Shape) → IsShape shape → (n : ℕ) → n ≡ 11 → ReadsTag shape n (outcome_at shape)
 unfolding outcome_at
@@ -172,7 +172,7 @@ reads_outcome shape is n e =
 
 from_deliver : (shape : Shape) (m : Message) → message_tag m ≡ 12 → MessageFits shape m → (p : ℕ × List Page) × (message.Deliver p.0 p.1 ≡ m) × (IsNumber p.0 × ListFits 1 most_slots (PageFits shape) p.1)
 from_deliver shape (message.Deliver first pages) e f = ((first, pages), refl, f)
-from_deliver shape _ e f = absurd (cc)
+from_deliver shape _ e f = absurd (omega (arith, e))
 
 reads_deliver : (shape : Shape) → IsShape shape → (n : ℕ) → n ≡ 12 → ReadsTag shape n (deliver_at shape)
 unfolding deliver_at
@@ -183,7 +183,7 @@ reads_deliver shape is n e =
 
 from_new_ballot : (shape : Shape) (m : Message) → message_tag m ≡ 13 → MessageFits shape m → (p : ℕ) × (message.NewBallot p ≡ m) × (IsNumber p)
 from_new_ballot shape (message.NewBallot ballot) e f = (ballot, refl, f)
-from_new_ballot shape _ e f = absurd (cc)
+from_new_ballot shape _ e f = absurd (omega (arith, e))
 
 reads_new_ballot : (shape : Shape) → IsShape shape → (n : ℕ) → n ≡ 13 → ReadsTag shape n (made_at (λ p. message.NewBallot p) a_number)
 reads_new_ballot shape is n e =
@@ -191,7 +191,7 @@ reads_new_ballot shape is n e =
 
 from_promise : (shape : Shape) (m : Message) → message_tag m ≡ 14 → MessageFits shape m → (p : ℕ × (ℕ × (ℕ × List LogEntry))) × (message.Promise p.0 p.1.0 p.1.1.0 p.1.1.1 ≡ m) × (IsNumber p.0 × (IsNumber p.1.0 × (IsNumber p.1.1.0 × ListFits 0 most_slots (EntryFits shape) p.1.1.1)))
 from_promise shape (message.Promise ballot accepted base tail) e f = ((ballot, (accepted, (base, tail))), refl, f)
-from_promise shape _ e f = absurd (cc)
+from_promise shape _ e f = absurd (omega (arith, e))
 
 reads_promise : (shape : Shape) → IsShape shape → (n : ℕ) → n ≡ 14 → ReadsTag shape n (promise_at shape)
 unfolding promise_at
@@ -204,7 +204,7 @@ reads_promise shape is n e =
 
 from_new_state : (shape : Shape) (m : Message) → message_tag m ≡ 15 → MessageFits shape m → (p : ℕ × (ℕ × List LogEntry)) × (message.NewState p.0 p.1.0 p.1.1 ≡ m) × (IsNumber p.0 × (IsNumber p.1.0 × ListFits 0 most_slots (EntryFits shape) p.1.1))
 from_new_state shape (message.NewState ballot base tail) e f = ((ballot, (base, tail)), refl, f)
-from_new_state shape _ e f = absurd (cc)
+from_new_state shape _ e f = absurd (omega (arith, e))
 
 reads_new_state : (shape : Shape) → IsShape shape → (n : ℕ) → n ≡ 15 → ReadsTag shape n (new_state_at shape)
 unfolding new_state_at
@@ -216,7 +216,7 @@ reads_new_state shape is n e =
 
 from_accept : (shape : Shape) (m : Message) → message_tag m ≡ 16 → MessageFits shape m → (p : ℕ × (ℕ × LogEntry)) × (message.Accept p.0 p.1.0 p.1.1 ≡ m) × (IsNumber p.0 × (IsNumber p.1.0 × EntryFits shape p.1.1))
 from_accept shape (message.Accept ballot slot entry) e f = ((ballot, (slot, entry)), refl, f)
-from_accept shape _ e f = absurd (cc)
+from_accept shape _ e f = absurd (omega (arith, e))
 
 reads_accept : (shape : Shape) → IsShape shape → (n : ℕ) → n ≡ 16 → ReadsTag shape n (accept_at shape)
 unfolding accept_at
@@ -228,7 +228,7 @@ reads_accept shape is n e =
 
 from_accepted : (shape : Shape) (m : Message) → message_tag m ≡ 17 → MessageFits shape m → (p : ℕ × ℕ) × (message.Accepted p.0 p.1 ≡ m) × (IsNumber p.0 × IsNumber p.1)
 from_accepted shape (message.Accepted ballot length) e f = ((ballot, length), refl, f)
-from_accepted shape _ e f = absurd (cc)
+from_accepted shape _ e f = absurd (omega (arith, e))
 
 reads_accepted : (shape : Shape) → IsShape shape → (n : ℕ) → n ≡ 17 → ReadsTag shape n (accepted_at)
 unfolding accepted_at
@@ -239,7 +239,7 @@ reads_accepted shape is n e =
 
 from_catch_up : (shape : Shape) (m : Message) → message_tag m ≡ 18 → MessageFits shape m → (p : ℕ) × (message.CatchUp p ≡ m) × (IsNumber p)
 from_catch_up shape (message.CatchUp length) e f = (length, refl, f)
-from_catch_up shape _ e f = absurd (cc)
+from_catch_up shape _ e f = absurd (omega (arith, e))
 
 reads_catch_up : (shape : Shape) → IsShape shape → (n : ℕ) → n ≡ 18 → ReadsTag shape n (made_at (λ p. message.CatchUp p) a_number)
 reads_catch_up shape is n e =
@@ -247,7 +247,7 @@ reads_catch_up shape is n e =
 
 from_learn : (shape : Shape) (m : Message) → message_tag m ≡ 19 → MessageFits shape m → (p : ℕ × List LogEntry) × (message.Learn p.0 p.1 ≡ m) × (IsNumber p.0 × ListFits 1 most_slots (EntryFits shape) p.1)
 from_learn shape (message.Learn first entries) e f = ((first, entries), refl, f)
-from_learn shape _ e f = absurd (cc)
+from_learn shape _ e f = absurd (omega (arith, e))
 
 reads_learn : (shape : Shape) → IsShape shape → (n : ℕ) → n ≡ 19 → ReadsTag shape n (learn_at shape)
 unfolding learn_at
