@@ -3,6 +3,7 @@ pub mod FieldReadings
 pub mod Reading
 pub mod Lists
 pub mod Effects
+pub mod Tuples
 pub mod Laws
 pub mod Lengths
 pub mod Faults

@@ -70,3 +70,22 @@ pub(crate) mod effect_code {
 
     pub(crate) const MULTI_WRITE: u8 = 7;
 }
+
+/// The codes of classes.
+pub(crate) mod class_code {
+    pub(crate) const READ: u8 = 1;
+
+    pub(crate) const WRITE: u8 = 2;
+
+    pub(crate) const GIVE: u8 = 3;
+
+    pub(crate) const TAKE: u8 = 4;
+
+    pub(crate) const ADD: u8 = 5;
+
+    pub(crate) const REMOVE: u8 = 6;
+
+    pub(crate) const ENABLE: u8 = 7;
+
+    pub(crate) const DISABLE: u8 = 8;
+}

@@ -10,6 +10,7 @@ mod list;
 mod order;
 mod read;
 mod told;
+mod tuple;
 mod values;
 mod write;
 
@@ -21,4 +22,5 @@ pub use list::{copies_of, list_len, put_list, take_list};
 pub use order::{Order, are_in_order};
 pub use read::{take_answer, take_item, take_op};
 pub use told::answer_fits;
+pub use tuple::{TID_LEN, found, vector_len};
 pub use write::{frame_of, put_answer, put_item, put_op};

@@ -30,7 +30,8 @@ use Rattle.us_peer_wire.specs.declared.message.Message.{Message}
 use Rattle.us_peer_wire.specs.declared.message.Message.TheVariants as message
 use Rattle.us_peer_wire.specs.declared.message.OutcomeEnd.{OutcomeEnd}
 use Rattle.us_peer_wire.specs.declared.message.Page.{Page}
-use Rattle.us_peer_wire.specs.Parts.{own_spelling, OwnFits, own_at, form_spelling, FormFits, form_at, entry_spelling, EntryFits, entry_at, committed_spelling, CommittedFits, committed_at, committed_before, page_spelling, PageFits, page_at, end_spelling, EndFits, end_at}
+use Rattle.us_fields.specs.Tuples.{own_spelling, OwnFits, own_at, committed_spelling, CommittedFits, committed_at, committed_before}
+use Rattle.us_peer_wire.specs.Parts.{form_spelling, FormFits, form_at, entry_spelling, EntryFits, entry_at, page_spelling, PageFits, page_at, end_spelling, EndFits, end_at}
 use Rattle.us_peer_wire.specs.Messages.{message_tag, number, most_slots, message_fields, IsNumber, BatchFits, MessageFits, a_number, get_at, version_at, prepare_at, prepared_at, commit_at, replicate_at, known_local_at, outcome_at, deliver_at, promise_at, new_state_at, accept_at, accepted_at, learn_at, early_fields_at, late_fields_at, message_fields_at}
 use Rattle.us_peer_wire.proofs.PartLaws.{reads_sites, reads_own, reads_forms, reads_entries, reads_committed, reads_pages, reads_ends}
 

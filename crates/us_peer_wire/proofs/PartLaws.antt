@@ -34,7 +34,8 @@ use Rattle.us_peer_wire.specs.declared.message.OutcomeEnd.{OutcomeEnd}
 use Rattle.us_peer_wire.specs.declared.message.OutcomeEnd.TheVariants.{Commit, Abort}
 use Rattle.us_peer_wire.specs.declared.message.Page.{Page}
 use Rattle.us_peer_wire.specs.declared.message.Page.TheVariants.{Skip, Holds}
-use Rattle.us_peer_wire.specs.Parts.{actor_spelling, ActorFits, actor_at, own_spelling, OwnFits, own_at, form_code, form_fields, form_spelling, MaybeFits, FormFits, maybe_at, form_fields_at, form_at, class_code, class_fields_at, class_at, touch_spelling, TouchFits, touch_at, entry_spelling, EntryFits, entry_at, committed_spelling, CommittedFits, committed_at, page_code, page_fields, page_spelling, PageFits, page_fields_at, page_at, end_code, end_fields, end_spelling, EndFits, end_fields_at, end_at}
+use Rattle.us_fields.specs.Tuples.{own_spelling, OwnFits, own_at, class_code, class_fields_at, class_at, touch_spelling, TouchFits, touch_at, committed_spelling, CommittedFits, committed_at}
+use Rattle.us_peer_wire.specs.Parts.{actor_spelling, ActorFits, actor_at, form_code, form_fields, form_spelling, MaybeFits, FormFits, maybe_at, form_fields_at, form_at, entry_spelling, EntryFits, entry_at, page_code, page_fields, page_spelling, PageFits, page_fields_at, page_at, end_code, end_fields, end_spelling, EndFits, end_fields_at, end_at}
 
 pub reads_sites : (shape : Shape) → IsShape shape → Reads (IsOneOf (sites_of shape)) (λ n. n ∷ []) (number_between_at w8 1 (sites_of shape))
 reads_sites shape is = one_of (sites_of shape) (omega (arith, is.few_sites))

@@ -15,7 +15,8 @@ use Rattle.us_fields.specs.Lists.{both_at, made_at, list_spelling, ListFits, lis
 use Rattle.us_fields.specs.Effects.{writes_spelling, WritesFit, writes_at}
 use Rattle.us_peer_wire.specs.declared.message.Message.{Message}
 use Rattle.us_peer_wire.specs.declared.message.Message.TheVariants as message
-use Rattle.us_peer_wire.specs.Parts.{own_spelling, OwnFits, own_at, form_spelling, FormFits, form_at, entry_spelling, EntryFits, entry_at, committed_spelling, CommittedFits, committed_at, committed_before, page_spelling, PageFits, page_at, end_spelling, EndFits, end_at}
+use Rattle.us_fields.specs.Tuples.{own_spelling, OwnFits, own_at, committed_spelling, CommittedFits, committed_at, committed_before}
+use Rattle.us_peer_wire.specs.Parts.{form_spelling, FormFits, form_at, entry_spelling, EntryFits, entry_at, page_spelling, PageFits, page_at, end_spelling, EndFits, end_at}
 
 -- which message it is
 abbrev pub message_tag : Message → ℕ
