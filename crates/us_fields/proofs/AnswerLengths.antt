@@ -9,7 +9,7 @@ use Rattle.us_value.specs.Lengths.{value_length, all_lengths, answer_length}
 use Rattle.us_fields.specs.Fields.{answer_spelling, values_spelling}
 use Rattle.us_fields.specs.Lengths.{AnswersAreAsLong}
 
-value-length : (bytes : List ℕ) → length (value bytes) ≡ value_length bytes
+pub value-length : (bytes : List ℕ) → length (value bytes) ≡ value_length bytes
 value-length bytes = length-append (to_be_bytes w16 (length bytes)) bytes
 
 all-lengths : (values : List (List ℕ)) → length (many_spelling value values) ≡ all_lengths values

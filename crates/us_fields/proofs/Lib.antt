@@ -6,3 +6,4 @@ pub mod ValueTests
 pub mod ListLaws
 pub mod EffectLaws
 pub mod ListLoops
+pub mod FieldLengths

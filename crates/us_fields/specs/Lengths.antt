@@ -11,10 +11,15 @@ use Rattle.us_value.specs.declared.operation.Effect.{Effect}
 use Rattle.us_wire.specs.Fields.{longest_value}
 use Rattle.us_value.specs.Lengths.{answer_length, item_length, effect_length, write_length}
 use Rattle.us_fields.specs.Fields.{answer_spelling}
+use Rattle.us_fields.specs.Effects.{write_spelling}
 
 -- an answer's spelling is as long as is said of the answer
 abbrev pub AnswersAreAsLong : Type 0
 AnswersAreAsLong = (answer : Answer) → length (answer_spelling answer) ≡ answer_length answer
+
+-- a write's spelling is as long as is said of the write
+abbrev pub WritesAreAsLong : Type 0
+WritesAreAsLong = (w : Write) → length (write_spelling w) ≡ write_length w
 
 -- no value is too long
 abbrev pub all_short : List (List ℕ) → Bool

@@ -17,7 +17,7 @@ mod write;
 pub use effect::{put_writes, take_writes};
 pub use fault::DecodeFault;
 pub use field::Field;
-pub use laws::{answers_are_as_long, fields_are_read_as_spelled};
+pub use laws::{answers_are_as_long, fields_are_read_as_spelled, writes_are_as_long};
 pub use list::{copies_of, list_len, put_list, take_list};
 pub use order::{Order, are_in_order};
 pub use read::{take_answer, take_item, take_op};

@@ -3,11 +3,17 @@
 
 mod codes;
 mod copy;
-mod decode;
 mod laws;
+mod length;
 mod message;
 mod part;
+mod read;
+mod write;
 
-pub use decode::decode;
 pub use laws::packets_are_read_as_spelled;
-pub use message::{Actor, Form, LogEntry, Message, Outcome, OutcomeEnd, Packet, Page, Verdict, Version};
+pub use length::packet_len;
+pub use message::{
+    Actor, Form, LogEntry, Message, Outcome, OutcomeEnd, Packet, Page, Verdict, Version,
+};
+pub use read::decode;
+pub use write::encode;

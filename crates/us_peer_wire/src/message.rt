@@ -172,10 +172,7 @@ pub struct Outcome {
 pub enum OutcomeEnd {
     Commit,
     /// It conflicts with the transaction that is named, on this item.
-    Abort {
-        named: Tid,
-        item: Item,
-    },
+    Abort { named: Tid, item: Item },
 }
 
 /// What a slot of the ballot log is to a partition.
@@ -196,11 +193,7 @@ pub enum Page {
 pub enum Verdict {
     Commit,
     /// The transaction in the earlier slot, which is named, conflicts with it on this item.
-    Abort {
-        slot: u64,
-        named: Tid,
-        item: Item,
-    },
+    Abort { slot: u64, named: Tid, item: Item },
     /// The transaction stands in an earlier slot.
     Repeat,
 }

@@ -40,8 +40,7 @@ impl Field for LogEntry {
     ) -> Result<(LogEntry, usize), DecodeFault> {
         let (tid, at) = found(take_tid(input, at, shape))?;
         let (snapshot, at) = found(take_vector(input, at, shape))?;
-        let (touches, at) =
-            take_list::<(Item, Class)>(alloc, input, at, 0, OPERATIONS, shape)?;
+        let (touches, at) = take_list::<(Item, Class)>(alloc, input, at, 0, OPERATIONS, shape)?;
         let (writes, next) = take_writes(alloc, input, at, shape)?;
         let entry = LogEntry {
             tid,
@@ -85,8 +84,9 @@ fn page_fields_in(
     match code {
         page_code::SKIP => Ok((Page::Skip, at)),
         page_code::HOLDS => {
-            let ((tid, vector, writes), next) =
-                <(Tid, Vector, Items<Write>)>::take(alloc, input, at, shape)?;
+            let ((tid, vector, writes), next) = <(Tid, Vector, Items<Write>)>::take(
+                alloc, input, at, shape,
+            )?;
             let page = Page::Holds {
                 tid,
                 vector,

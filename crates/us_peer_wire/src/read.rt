@@ -1,10 +1,9 @@
-ghost use Rattle.std.specs.Prelude.{◌≡◌, ◌⊎◌, IfOk, IsOk, Ok, Err, None, Some, slice_get};
-ghost use Rattle.us_base.specs.Shape.{IsShape};
-ghost use Rattle.us_base.specs.Vector.{entry};
+ghost use Rattle.std.specs.Prelude.{◌≡◌, ◌<◌, ◌⊎◌, IfOk, IfSome, IsOk, Ok, Err, None, Some, slice_get};
+ghost use Rattle.us_base.specs.Shape.{IsShape, sites_of};
 ghost use Rattle.us_fields.specs.declared.fault.DecodeFault.{DecodeFault};
 ghost use Rattle.us_fields.specs.Reading.{Tells};
-ghost use Rattle.us_wire.specs.Readings.{number_between_at, largest_number};
-ghost use Rattle.std.specs.Int.{w64};
+ghost use Rattle.us_wire.specs.Readings.{number_between_at};
+ghost use Rattle.std.specs.Int.{w8};
 ghost use Rattle.us_peer_wire.specs.declared.message.Packet.{Packet};
 ghost use Rattle.us_peer_wire.specs.Parts.{actor_at, maybe_at, form_fields_at, form_at, end_fields_at, end_at};
 ghost use Rattle.us_peer_wire.specs.Messages.{a_number, get_at, version_at, prepare_at, prepared_at, commit_at, replicate_at, known_local_at, outcome_at, deliver_at, promise_at, new_state_at, accept_at, accepted_at, learn_at, early_fields_at, late_fields_at, message_fields_at};
@@ -204,8 +203,10 @@ fn commit_in(input: &[u8], at: usize, shape: Shape) -> Result<(Message, usize), 
 }
 
 /// Replicated transactions ascend by the entry of their origin, where equal ones may stand.
+#[derive(Drop)]
 struct ByEntry {
     origin: u8,
+    ghost is_entry: { origin < 10 },
 }
 
 impl Order<(Tid, Vector, Items<Write>)> for ByEntry {
@@ -218,15 +219,17 @@ impl Order<(Tid, Vector, Items<Write>)> for ByEntry {
         item: &(Tid, Vector, Items<Write>),
         next: &(Tid, Vector, Items<Write>),
     ) -> bool {
-        entry_of(&item.1, self.origin) <= entry_of(&next.1, self.origin)
+        item.1.get(self.origin) <= next.1.get(self.origin)
     }
 }
 
-/// Entry `i` of a vector, 0 where it has none.
-fn entry_of(vector: &Vector, i: u8) -> u64
-    ensures { result ≡ entry vector.now i }
+/// The site at which replicated transactions were committed, which is the place of an entry, and the place behind it.
+fn origin_in(input: &[u8], at: usize, shape: Shape) -> Option<(u8, usize)>
+    requires { IsShape shape }
+    ensures read { result ≡ number_between_at w8 1 (sites_of shape) input.now at }
+    ensures entry { IfSome result (λ read. read.0 < 10) }
 {
-    if i < 10 { vector.get(i) } else { 0 }
+    take_u8_between(input, at, 1, shape.sites())
 }
 
 #[tactic(auto, unfolding(crate::specs::Messages::replicate_at))]
@@ -239,11 +242,12 @@ fn replicate_in(
     requires { IsShape shape }
     ensures { Tells result (replicate_at shape input.now at) }
 {
-    let (origin, at) = found(take_u8_between(input, at, 1, shape.sites()))?;
+    let (origin, at) = found(origin_in(input, at, shape))?;
     let (lo, at) = number_in(input, at)?;
     let (hi, at) = number_in(input, at)?;
-    let (txs, next) =
-        take_list::<(Tid, Vector, Items<Write>)>(alloc, input, at, 0, REPLICATED, shape)?;
+    let (txs, next) = take_list::<(Tid, Vector, Items<Write>)>(
+        alloc, input, at, 0, REPLICATED, shape,
+    )?;
     if !are_in_order(&ByEntry { origin }, txs.as_slice()) {
         return Err(DecodeFault::Malformed);
     }
