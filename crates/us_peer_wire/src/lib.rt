@@ -8,6 +8,8 @@ mod length;
 mod message;
 mod part;
 mod read;
+#[cfg(test)]
+mod tests;
 mod write;
 
 pub use laws::packets_are_read_as_spelled;
