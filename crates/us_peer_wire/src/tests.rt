@@ -166,15 +166,40 @@ fn framed(alloc: Global, number: u8, parts: &[&[u8]]) -> Result<Vec<u8>, Memory>
 /// The frame is none where it is cut at any byte, nor with a byte behind its last field.
 fn is_whole(rt: &impl Abort, alloc: Global, frame: &[u8]) -> Result<(), Memory> {
     for end in 0..frame.len() {
-        assert_eq!(rt;
-            decode(alloc, &frame[..end], ALONE),
-            Err(DecodeFault::Malformed)
-        );
+        assert!(rt; packet_of(alloc, &frame[..end])?.is_none());
     }
     let mut longer = Vec::from_slice(alloc, frame)?;
     longer.push(0)?;
-    assert_eq!(rt; decode(alloc, &longer, ALONE), Err(DecodeFault::Malformed));
+    assert!(rt; packet_of(alloc, longer.as_slice())?.is_none());
     Ok(())
+}
+
+/// The packet that the frame is, or none where it is malformed.
+fn packet_of(alloc: Global, frame: &[u8]) -> Result<Option<Packet>, Memory> {
+    match decode(alloc, frame, ALONE) {
+        Ok(packet) => Ok(Some(packet)),
+        Err(DecodeFault::Malformed) => Ok(None),
+        Err(DecodeFault::Memory) => Err(Memory),
+    }
+}
+
+/// Whether the frame is read as the packet, of which a copy is the same.
+fn is_read(alloc: Global, frame: &[u8], sent: &Packet) -> Result<bool, Memory> {
+    match packet_of(alloc, frame)? {
+        Some(packet) => Ok(packet.copy(alloc)? == *sent),
+        None => Ok(false),
+    }
+}
+
+/// Whether the packet that the frame is has this frame, and its length.
+fn is_written(alloc: Global, frame: &[u8]) -> Result<bool, Memory> {
+    match decode(alloc, frame, ALONE) {
+        Ok(packet) => {
+            let again = encode(alloc, &packet, ALONE)?;
+            Ok(again.as_slice() == frame && packet_len(&packet, ALONE) == frame.len())
+        }
+        Err(_) => Ok(false),
+    }
 }
 
 /// The message and the frame with these fields are each other's.
@@ -185,21 +210,15 @@ fn is_message(
     parts: &[&[u8]],
     message: Message,
 ) -> Result<(), Memory> {
-    let frame = framed(alloc, number, parts)?;
     let sent = Packet {
         from: Actor { site: 1, actor: 1 },
         to: Actor { site: 1, actor: 0 },
         message,
     };
-    match decode(alloc, &frame, ALONE) {
-        Ok(packet) => {
-            assert_eq!(rt; packet.copy(alloc)?, sent);
-            assert_eq!(rt; encode(alloc, &packet, ALONE)?, frame);
-            assert_eq!(rt; packet_len(&packet, ALONE), frame.len());
-        }
-        Err(fault) => assert_eq!(rt; fault, DecodeFault::Memory),
-    }
-    is_whole(rt, alloc, &frame)
+    let frame = framed(alloc, number, parts)?;
+    assert!(rt; is_read(alloc, frame.as_slice(), &sent)?);
+    assert!(rt; is_written(alloc, frame.as_slice())?);
+    is_whole(rt, alloc, frame.as_slice())
 }
 
 #[test]
@@ -390,7 +409,7 @@ fn messages_of_certifiers_are_read_and_written(rt: HostRuntime) -> Result<(), Fa
 /// Whether no packet is spelled by the frame with this tag and these fields.
 fn is_malformed(alloc: Global, number: u8, parts: &[&[u8]]) -> Result<bool, Memory> {
     let frame = framed(alloc, number, parts)?;
-    Ok(decode(alloc, &frame, ALONE) == Err(DecodeFault::Malformed))
+    Ok(packet_of(alloc, frame.as_slice())?.is_none())
 }
 
 #[test]
@@ -461,7 +480,7 @@ fn numbers_stay_within_their_bounds(rt: HostRuntime) -> Result<(), Fail> {
         "origin above the sites"
     );
     let mut frame = framed(alloc, 13, &[NINE])?;
-    assert!(rt; decode(alloc, &frame, ALONE).is_ok());
+    assert!(rt; packet_of(alloc, frame.as_slice())?.is_some());
     for (at, byte) in [
         (6, 0),
         (6, 2),
@@ -476,7 +495,7 @@ fn numbers_stay_within_their_bounds(rt: HostRuntime) -> Result<(), Fail> {
         if at < frame.len() {
             let before = frame[at];
             frame[at] = byte;
-            assert_eq!(rt; decode(alloc, &frame, ALONE), Err(DecodeFault::Malformed));
+            assert!(rt; packet_of(alloc, frame.as_slice())?.is_none());
             frame[at] = before;
         }
     }
