@@ -18,11 +18,11 @@ use Rattle.us_value.specs.declared.item.Item.{Item}
 use Rattle.us_value.specs.declared.operation.Answer.{Answer}
 use Rattle.us_client_wire.specs.declared.frame.Reply.{Reply}
 use Rattle.us_client_wire.specs.declared.frame.Reply.TheVariants.{Started, Answered, Committed, Aborted, Dropped, Passed, TokenIs, Attached, Refused}
-use Rattle.us_client_wire.specs.Fields.{item_spelling, ItemFits, answer_spelling, AnswerFits}
-use Rattle.us_client_wire.specs.FieldReadings.{item_at, answer_at}
+use Rattle.us_fields.specs.Fields.{item_spelling, ItemFits, answer_spelling, AnswerFits}
+use Rattle.us_fields.specs.FieldReadings.{item_at, answer_at}
 use Rattle.us_client_wire.specs.Replies.{reply_tag, reply_at, told_spelling, reply_fields, reply_spelling, ToldFits, ReplyFits, aborted_at, told_at, reply_fields_at, reply_of}
 use Rattle.us_client_wire.specs.Laws.{ReadsReplies}
-use Rattle.us_client_wire.proofs.FieldLaws.{unlike, one_of, words, reads_items, reads_answers}
+use Rattle.us_fields.proofs.FieldLaws.{unlike, one_of, words, reads_items, reads_answers}
 
 -- a reply to this frame, with this tag
 abbrev IsReply : Shape → ℕ → ℕ → Reply → Type 0

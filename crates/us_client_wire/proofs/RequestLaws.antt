@@ -17,11 +17,11 @@ use Rattle.us_value.specs.declared.operation.Op.{Op}
 use Rattle.us_value.specs.declared.operation.Op.TheVariants as op
 use Rattle.us_client_wire.specs.declared.frame.Request.{Request}
 use Rattle.us_client_wire.specs.declared.frame.Request.TheVariants.{Begin, Perform, CommitCausal, CommitStrong, Abandon, Barrier, AskToken, Attach}
-use Rattle.us_client_wire.specs.Fields.{item_spelling, ItemFits, op_spelling, op_fields, OpFits}
-use Rattle.us_client_wire.specs.FieldReadings.{item_at, op_at}
+use Rattle.us_fields.specs.Fields.{item_spelling, ItemFits, op_spelling, op_fields, OpFits}
+use Rattle.us_fields.specs.FieldReadings.{item_at, op_at}
 use Rattle.us_client_wire.specs.Requests.{request_tag, request_fields, request_spelling, RequestFits, perform_at, request_fields_at, request_of}
 use Rattle.us_client_wire.specs.Laws.{ReadsRequests}
-use Rattle.us_client_wire.proofs.FieldLaws.{unlike, reads_items, reads_ops}
+use Rattle.us_fields.proofs.FieldLaws.{unlike, reads_items, reads_ops}
 
 abbrev IsRequest : Shape → ℕ → Request → Type 0
 IsRequest shape tag r = (request_tag r ≡ tag) × RequestFits shape r

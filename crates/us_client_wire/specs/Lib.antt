@@ -1,8 +1,7 @@
-pub mod Fields
-pub mod FieldReadings
+pub use Rattle.us_fields.specs.Fields
+pub use Rattle.us_fields.specs.FieldReadings
+pub use Rattle.us_fields.specs.Reading
+pub use Rattle.us_fields.specs.Lengths
 pub mod Requests
 pub mod Replies
-pub mod Reading
 pub mod Laws
-pub mod Lengths
-pub mod Faults

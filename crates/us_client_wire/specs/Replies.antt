@@ -9,8 +9,8 @@ use Rattle.us_migrate.specs.Spellings.{tid_spelling, token_spelling, IsOneOf, Ti
 use Rattle.us_migrate.specs.Readings.{tid_at, token_at}
 use Rattle.us_client_wire.specs.declared.frame.Reply.{Reply}
 use Rattle.us_client_wire.specs.declared.frame.Reply.TheVariants.{Started, Answered, Committed, Aborted, Dropped, Passed, TokenIs, Attached, Refused}
-use Rattle.us_client_wire.specs.Fields.{item_spelling, answer_spelling, ItemFits, AnswerFits}
-use Rattle.us_client_wire.specs.FieldReadings.{item_at, answer_at}
+use Rattle.us_fields.specs.Fields.{item_spelling, answer_spelling, ItemFits, AnswerFits}
+use Rattle.us_fields.specs.FieldReadings.{item_at, answer_at}
 
 -- which reply it is
 abbrev pub reply_tag : Reply → ℕ

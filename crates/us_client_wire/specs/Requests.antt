@@ -7,8 +7,8 @@ use Rattle.us_migrate.specs.Spellings.{token_spelling, TokenFits}
 use Rattle.us_migrate.specs.Readings.{token_at}
 use Rattle.us_client_wire.specs.declared.frame.Request.{Request}
 use Rattle.us_client_wire.specs.declared.frame.Request.TheVariants.{Begin, Perform, CommitCausal, CommitStrong, Abandon, Barrier, AskToken, Attach}
-use Rattle.us_client_wire.specs.Fields.{item_spelling, op_spelling, ItemFits, OpFits}
-use Rattle.us_client_wire.specs.FieldReadings.{item_at, op_at}
+use Rattle.us_fields.specs.Fields.{item_spelling, op_spelling, ItemFits, OpFits}
+use Rattle.us_fields.specs.FieldReadings.{item_at, op_at}
 
 -- which request it is
 abbrev pub request_tag : Request → ℕ

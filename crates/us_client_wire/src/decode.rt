@@ -2,15 +2,15 @@ ghost use Rattle.std.specs.Prelude.{◌≡◌, ◌⊎◌, ◌≤◌, IfOk, IsOk,
 ghost use Rattle.us_base.specs.Shape.{IsShape};
 ghost use Rattle.us_client_wire.specs.declared.frame.Request.{Request};
 ghost use Rattle.us_client_wire.specs.declared.frame.Reply.{Reply};
-ghost use Rattle.us_client_wire.specs.Reading.{Tells};
+ghost use Rattle.us_fields.specs.Reading.{Tells};
 ghost use Rattle.us_client_wire.specs.Requests.{perform_at, request_fields_at, request_of, request_spelling, RequestFits};
 ghost use Rattle.us_client_wire.specs.Replies.{aborted_at, told_at, reply_fields_at, reply_of, reply_spelling, ReplyFits};
 
-use crate::fields::{take_answer, take_item, take_op};
 use crate::frame::{CAUSES, tag};
 use crate::{DecodeFault, Reply, Request};
 use std::alloc::Global;
 use us_base::Shape;
+use us_fields::{take_answer, take_item, take_op};
 use us_migrate::{read_token, take_tid};
 use us_wire::{open_frame, take_u8_between, take_u64};
 

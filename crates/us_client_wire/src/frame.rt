@@ -1,6 +1,5 @@
 ghost use Rattle.std.specs.Prelude.{◌≡◌, IfOk};
 
-use us_base::Limits;
 use us_kind::{Memory, Tid};
 use us_migrate::Token;
 use us_value::{Answer, Item, Op};
@@ -90,14 +89,8 @@ impl Reply {
     }
 }
 
-/// The version that each frame names.
-pub(crate) const VERSION: u8 = 1;
-
 /// The greatest number of a refusal.
 pub(crate) const CAUSES: u8 = 11;
-
-/// The greatest length of an item's id, in bytes.
-pub(crate) const ID_LIMIT: u8 = Limits::ITEM_ID;
 
 /// The tags of requests and replies.
 pub(crate) mod tag {
@@ -134,48 +127,4 @@ pub(crate) mod tag {
     pub(crate) const ATTACHED: u8 = 136;
 
     pub(crate) const REFUSED: u8 = 137;
-}
-
-/// The codes of operations.
-pub(crate) mod op_code {
-    pub(crate) const REGISTER_READ: u8 = 1;
-
-    pub(crate) const REGISTER_WRITE: u8 = 2;
-
-    pub(crate) const COUNTER_READ: u8 = 3;
-
-    pub(crate) const COUNTER_ADD: u8 = 4;
-
-    pub(crate) const SET_MEMBERS: u8 = 5;
-
-    pub(crate) const SET_CONTAINS: u8 = 6;
-
-    pub(crate) const SET_ADD: u8 = 7;
-
-    pub(crate) const SET_REMOVE: u8 = 8;
-
-    pub(crate) const FLAG_READ: u8 = 9;
-
-    pub(crate) const FLAG_ENABLE: u8 = 10;
-
-    pub(crate) const FLAG_DISABLE: u8 = 11;
-
-    pub(crate) const MULTI_READ: u8 = 12;
-
-    pub(crate) const MULTI_WRITE: u8 = 13;
-}
-
-/// The codes of answers.
-pub(crate) mod answer_code {
-    pub(crate) const DONE: u8 = 0;
-
-    pub(crate) const NOTHING: u8 = 1;
-
-    pub(crate) const VALUE: u8 = 2;
-
-    pub(crate) const NUMBER: u8 = 3;
-
-    pub(crate) const VALUES: u8 = 4;
-
-    pub(crate) const BIT: u8 = 5;
 }

@@ -112,6 +112,8 @@ take_message me shape from w (message.Prepare tid snapshot writes) =
     else w
 take_message me shape from w (message.Prepared tid ts) = all_sessions (prepared from.actor tid ts) me shape w
 take_message me shape from w (message.Commit tid vector) = with_partition w (commit me w.shard.partition tid vector) []
+-- the rules of the others aren't built yet
+take_message me shape from w _ = w
 
 -- A PACKET THAT AN ACTOR TAKES: from a partition's actor of the own site, about items of configured spaces, with operations and
 -- effects of their kinds
@@ -138,6 +140,8 @@ message_fits spaces (message.Version v) = true
 message_fits spaces (message.Prepare tid snapshot writes) = writes_fit spaces writes
 message_fits spaces (message.Prepared tid ts) = true
 message_fits spaces (message.Commit tid vector) = true
+-- none of the others is taken yet
+message_fits spaces _ = false
 
 -- the actors of partitions are 1 and so on, and 0 is the certifier
 abbrev pub is_partition : Shape → ℕ → Bool

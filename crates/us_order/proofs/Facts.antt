@@ -138,6 +138,7 @@ IsTrue spaces p l (message.Version v) = AnswersGet spaces p l.messages v.tid v.p
 IsTrue spaces p l (message.Prepare tid snapshot writes) = IsBegun l.history.begun tid snapshot
 IsTrue spaces p l (message.Prepared tid ts) = Promised p l.history.committed tid ts
 IsTrue spaces p l (message.Commit tid vector) = DecidedAt l.history.committed tid vector
+IsTrue spaces p l _ = Unit {0}
 
 pub record PreparedFacts (done_here : List Tid) (ms : List Message) (q : PreparedTx) : Type 0 where
   pub done : In q.tid done_here
@@ -278,6 +279,7 @@ FromSession l n (message.Version v) = ⊥
 FromSession l n (message.Prepare tid snapshot writes) = OfSession l.history.begun n tid
 FromSession l n (message.Prepared tid ts) = ⊥
 FromSession l n (message.Commit tid vector) = Unit {0}
+FromSession l n _ = ⊥
 
 -- what session n may do to what is shared
 pub record Grows (n : ℕ) (l l' : Ledger) : Type 0 where
@@ -299,6 +301,7 @@ from_session-later l l' n (message.Version v) g h = h
 from_session-later l l' n (message.Prepare tid snapshot writes) g h = of_session-later l.history.begun l'.history.begun n tid g h
 from_session-later l l' n (message.Prepared tid ts) g h = h
 from_session-later l l' n (message.Commit tid vector) g h = tt
+from_session-later l l' n _ g h = h
 
 pub grows_further : {n : ℕ} {a b c : Ledger} → Grows n a b → Grows n b c → Grows n a c
 grows_further {n} {a} {b} {c} g h = record {

@@ -104,6 +104,7 @@ is_true-moves spaces p p' l ms (message.Version x) v h = record {
   is_known = known-later p p' h.snapshot v.later h.is_known;
   is = h.is ∙ ap (λ s. form_for (answered h.op s) (prepared_effect (record { tid = x.tid; place = x.place }) h.op s)) (state-later spaces p p' x.tid h.snapshot h.item h.own v.later h.is_known);
 }
+is_true-moves spaces p p' l ms _ v h = h
 
 pub part_moves : (spaces : Spaces) (p p' : Partition) (l : Ledger) (ms : List Message) → Moves spaces p p' l ms → PartitionFacts spaces p l → PartitionFacts spaces p' (with_messages l ms)
 part_moves spaces p p' l ms v h = record {
@@ -286,6 +287,7 @@ new_told spaces p l tid n h fresh (message.Get t k a sn i o own) j e = e
 new_told spaces p l tid n h fresh (message.Version v) j e = e
 new_told spaces p l tid n h fresh (message.Prepare t sn ws) j e = e
 new_told spaces p l tid n h fresh (message.Commit t v) j e = e
+new_told spaces p l tid n h fresh _ j e = e
 
 pub prepare_all : (spaces : Spaces) (p : Partition) (l : Ledger) (tid : Tid) (n : ℕ) → PartitionFacts spaces p l → SharedFacts l → contains_tid tid p.done ≡ false → SharedFacts (with_messages l (message.Prepared tid n ∷ []))
 prepare_all spaces p l tid n h all fresh = record { told = all.told; once = once_push l.messages (message.Prepared tid n) all.once (new_told spaces p l tid n h fresh) }

@@ -76,6 +76,7 @@ is_true-later spaces p l l' (message.Version v) g b d h = record { snapshot = h.
 is_true-later spaces p l l' (message.Prepare tid snapshot writes) g b d h = record { by = h.by; here = in_later _ b h.here; tid_is = h.tid_is; snapshot_is = h.snapshot_is }
 is_true-later spaces p l l' (message.Prepared tid ts) g b d h = record { done = h.done; until = ⊎_elim (λ a. inl a) (λ (k : IsDecided l.history.committed tid). inr (record { decision = k.decision; here = in_later _ d k.here; tid_is = k.tid_is })) h.until }
 is_true-later spaces p l l' (message.Commit tid vector) g b d h = record { decision = h.decision; here = in_later _ d h.here; tid_is = h.tid_is; vector_is = h.vector_is; has = h.has }
+is_true-later spaces p l l' _ g b d h = h
 
 committed_in-append : (s : SessionName) (cs ds : List Committed) → committed_in s cs ≤ committed_in s (cs ++ ds)
 committed_in-append s [] ds = omega arith
@@ -194,6 +195,7 @@ new_prepare spaces log l n last w tx run idle (message.Get t m a sn i o own) h k
 new_prepare spaces log l n last w tx run idle (message.Version v) h k = k
 new_prepare spaces log l n last w tx run idle (message.Prepared t m) h k = k
 new_prepare spaces log l n last w tx run idle (message.Commit t v) h k = k
+new_prepare spaces log l n last w tx run idle _ h k = k
 
 sent_to_one_keeps : (spaces : Spaces) (b : Ledger) (p : Partition) (l : Ledger) (d : Desk) (s : Session) (at : ℕ) (tx : Transaction) → Stands b p l d → Facts spaces p l s → s.running ≡ Some tx → s.waits ≡ waits.Nothing → HasWrites tx.writes → Kept spaces b p l s.number (sent_to_one d s at tx)
 sent_to_one_keeps spaces b p l d s at tx st h running idle has =
@@ -512,6 +514,7 @@ no_key (message.Get t n a sn i o own) u v k = k
 no_key (message.Version x) u v k = k
 no_key (message.Prepared t n) u v k = k
 no_key (message.Commit t w) u v k = k
+no_key _ u v k = k
 
 -- PREPARED: the decision of a transaction with writes, which COMMIT tells
 above_snapshot : (spaces : Spaces) (p : Partition) (l : Ledger) (tx : Transaction) (ts : ℕ) → PartitionFacts spaces p l → SharedFacts l → In (message.Prepare tx.tid tx.snapshot tx.writes) l.messages → StillPrepared p.prepared tx.tid ts → entry tx.snapshot 1 < ts

@@ -156,6 +156,7 @@ take_message_keeps spaces b shape one from w (message.Version v) h i = all_keeps
 take_message_keeps spaces b shape one from w (message.Prepare tid sn ws) h i = cond_both (may_prepare me w.shard.partition tid sn) _ _ (Good spaces b) (λ e. prepares_keeps spaces b from w tid sn ws h i e) (λ _. h)
 take_message_keeps spaces b shape one from w (message.Prepared tid ts) h i = all_keeps spaces b shape one (prepared from.actor tid ts) (λ ms. In (message.Prepared tid ts) ms) (λ ms ms' g q. in_later _ g q) w (λ l d s q st f. prepared_keeps spaces b w.shard.partition from.actor tid ts l d s q st f) h i
 take_message_keeps spaces b shape one from w (message.Commit tid v) h i = commit_keeps spaces b w tid v h i
+take_message_keeps spaces b shape one from w _ h i = h
 
 -- AN EVENT
 abbrev pub IsSent : Ledger → Event → Type 0

@@ -1,0 +1,6 @@
+pub mod PartLaws
+pub mod MessageLaws
+pub mod PacketLaws
+pub mod PacketLengths
+pub mod ReadLemmas
+pub mod WriteLemmas

@@ -1,6 +1,21 @@
-//! Packets between actors.
+//! Packets between actors, and how frames spell them.
 #![tactic(auto)]
 
+mod codes;
+mod copy;
+mod laws;
+mod length;
 mod message;
+mod part;
+mod read;
+#[cfg(test)]
+mod tests;
+mod write;
 
-pub use message::{Actor, Form, Message, Packet, Version};
+pub use laws::packets_are_read_as_spelled;
+pub use length::packet_len;
+pub use message::{
+    Actor, Form, LogEntry, Message, Outcome, OutcomeEnd, Packet, Page, Verdict, Version,
+};
+pub use read::decode;
+pub use write::encode;

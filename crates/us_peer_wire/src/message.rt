@@ -1,9 +1,6 @@
-ghost use Rattle.std.specs.Prelude.{◌≡◌, IfOk};
-
-use std::alloc::Global;
 use us_base::Vector;
-use us_kind::{Items, Memory, Tid};
-use us_value::{Answer, Effect, Item, Op, Write};
+use us_kind::{Items, Tid};
+use us_value::{Answer, Class, Effect, Item, Op, Write};
 
 /// Who sends and takes packets: at a site, from 1, its certifier is actor 0, and each partition, with the
 /// coordinator of the same number, the actor of that number.
@@ -14,7 +11,7 @@ pub struct Actor {
 }
 
 /// A message on its way.
-#[derive(Drop)]
+#[derive(Debug, PartialEq, Eq, Drop)]
 pub struct Packet {
     pub from: Actor,
     pub to: Actor,
@@ -22,7 +19,7 @@ pub struct Packet {
 }
 
 /// What actors tell each other.
-#[derive(Drop)]
+#[derive(Debug, PartialEq, Eq, Drop)]
 pub enum Message {
     /// A coordinator asks a partition for the version of an item at a snapshot: `op` is the operation at
     /// `place` of the transaction, asked for by the session's request `at`; `own` are the transaction's own
@@ -55,10 +52,82 @@ pub enum Message {
         tid: Tid,
         vector: Vector,
     },
+    /// To the same partition of another site: the causal transactions of site `origin` whose entry of `origin` is above `lo` and
+    /// at most `hi`, at most eight of them, ascending by that entry, each with its vector and its writes there.
+    Replicate {
+        origin: u8,
+        lo: u64,
+        hi: u64,
+        txs: Items<(Tid, Vector, Items<Write>)>,
+    },
+    /// To another actor of the site: what the partition knows, and up to where all of its transactions are done.
+    KnownLocal {
+        known: Vector,
+        horizon: Vector,
+    },
+    /// To the same partition of another site: what is stable at the sender's.
+    Stable {
+        vector: Vector,
+    },
+    /// To the same partition of another site: what the sender knows.
+    KnownGlobal {
+        vector: Vector,
+    },
+    /// A coordinator hands a strong transaction to a certifier.
+    Submit {
+        entry: LogEntry,
+    },
+    /// A certifier tells a coordinator how its strong transaction ended.
+    Outcome {
+        outcome: Outcome,
+    },
+    /// A certifier tells a partition the pages of one to eight slots from `first` on.
+    Deliver {
+        first: u64,
+        pages: Items<Page>,
+    },
+    /// A certifier begins to lead in this ballot.
+    NewBallot {
+        ballot: u64,
+    },
+    /// The answer: the ballot of the sender's undecided entries, how many slots it knows to be decided, and the at most eight
+    /// entries behind them.
+    Promise {
+        ballot: u64,
+        accepted: u64,
+        base: u64,
+        tail: Items<LogEntry>,
+    },
+    /// What the leader of a ballot begins with: how many slots it knows to be decided, and the at most eight entries behind them.
+    NewState {
+        ballot: u64,
+        base: u64,
+        tail: Items<LogEntry>,
+    },
+    /// The leader puts an entry into a slot.
+    Accept {
+        ballot: u64,
+        slot: u64,
+        entry: LogEntry,
+    },
+    /// The sender has the leader's entries up to this length.
+    Accepted {
+        ballot: u64,
+        length: u64,
+    },
+    /// The sender knows so many decided slots.
+    CatchUp {
+        length: u64,
+    },
+    /// The one to eight decided entries from slot `first` on.
+    Learn {
+        first: u64,
+        entries: Items<LogEntry>,
+    },
 }
 
 /// The answer to a `Get`, whose transaction, place and `at` it repeats.
-#[derive(Drop)]
+#[derive(Debug, PartialEq, Eq, Drop)]
 pub struct Version {
     pub tid: Tid,
     pub place: u8,
@@ -67,7 +136,7 @@ pub struct Version {
 }
 
 /// What a version tells.
-#[derive(Drop)]
+#[derive(Debug, PartialEq, Eq, Drop)]
 pub enum Form {
     /// The operation's answer, and its effect where it updates.
     Answered {
@@ -80,120 +149,51 @@ pub enum Form {
     AnswerFull,
 }
 
-impl Packet {
-    /// A copy of the packet.
-    pub fn copy(&self, alloc: Global) -> Result<Packet, Memory>
-        ensures { IfOk result (λ copy. copy ≡ self.now) }
-    {
-        Ok(Packet {
-            from: self.from,
-            to: self.to,
-            message: self.message.copy(alloc)?,
-        })
-    }
+/// A strong transaction as the ballot log holds it: its snapshot, each of its operations as the item and the class, in order, and
+/// its writes.
+#[derive(Debug, PartialEq, Eq, Drop)]
+pub struct LogEntry {
+    pub tid: Tid,
+    pub snapshot: Vector,
+    pub touches: Items<(Item, Class)>,
+    pub writes: Items<Write>,
 }
 
-impl Message {
-    /// A copy of the message.
-    pub fn copy(&self, alloc: Global) -> Result<Message, Memory>
-        ensures { IfOk result (λ copy. copy ≡ self.now) }
-    {
-        Ok(match self {
-            Message::Get {
-                tid,
-                place,
-                at,
-                snapshot,
-                item,
-                op,
-                own,
-            } => Message::Get {
-                tid: *tid,
-                place: *place,
-                at: *at,
-                snapshot: *snapshot,
-                item: item.copy()?,
-                op: op.copy()?,
-                own: copies_of_own(alloc, own.as_slice())?,
-            },
-            Message::Version { version } => Message::Version {
-                version: version.copy()?,
-            },
-            Message::Prepare {
-                tid,
-                snapshot,
-                writes,
-            } => Message::Prepare {
-                tid: *tid,
-                snapshot: *snapshot,
-                writes: copies_of_writes(alloc, writes.as_slice())?,
-            },
-            Message::Prepared { tid, ts } => Message::Prepared { tid: *tid, ts: *ts },
-            Message::Commit { tid, vector } => Message::Commit {
-                tid: *tid,
-                vector: *vector,
-            },
-        })
-    }
+/// How the strong transaction in a slot of the ballot log ended.
+#[derive(Debug, PartialEq, Eq, Drop)]
+pub struct Outcome {
+    pub tid: Tid,
+    pub slot: u64,
+    pub end: OutcomeEnd,
 }
 
-impl Version {
-    /// A copy of the version.
-    pub fn copy(&self) -> Result<Version, Memory>
-        ensures { IfOk result (λ copy. copy ≡ self.now) }
-    {
-        Ok(Version {
-            tid: self.tid,
-            place: self.place,
-            at: self.at,
-            form: self.form.copy()?,
-        })
-    }
+/// How a strong transaction ends.
+#[derive(Debug, PartialEq, Eq, Drop)]
+pub enum OutcomeEnd {
+    Commit,
+    /// It conflicts with the transaction that is named, on this item.
+    Abort { named: Tid, item: Item },
 }
 
-impl Form {
-    /// A copy of the form.
-    pub fn copy(&self) -> Result<Form, Memory>
-        ensures { IfOk result (λ copy. copy ≡ self.now) }
-    {
-        match self {
-            Form::Answered { answer, effect } => Ok(Form::Answered {
-                answer: answer.copy()?,
-                effect: copy_of_effect(effect)?,
-            }),
-            Form::WritesFull => Ok(Form::WritesFull),
-            Form::AnswerFull => Ok(Form::AnswerFull),
-        }
-    }
+/// What a slot of the ballot log is to a partition.
+#[derive(Debug, PartialEq, Eq, Drop)]
+pub enum Page {
+    /// Nothing was committed in the slot.
+    Skip,
+    /// The transaction that was committed in the slot, its vector, and its writes at the partition.
+    Holds {
+        tid: Tid,
+        vector: Vector,
+        writes: Items<Write>,
+    },
 }
 
-fn copy_of_effect(effect: &Option<Effect>) -> Result<Option<Effect>, Memory>
-    ensures { IfOk result (λ copy. copy ≡ effect.now) }
-{
-    match effect {
-        Some(effect) => Ok(Some(effect.copy()?)),
-        None => Ok(None),
-    }
-}
-
-/// Copies of a transaction's own effects, with their places.
-fn copies_of_own(alloc: Global, own: &[(u8, Effect)]) -> Result<Items<(u8, Effect)>, Memory>
-    ensures { IfOk result (λ copies. copies ≡ own.now) }
-{
-    let mut copies = Items::new(alloc);
-    for (place, effect) in own {
-        copies.push((*place, effect.copy()?))?;
-    }
-    Ok(copies)
-}
-
-/// Copies of a transaction's writes.
-fn copies_of_writes(alloc: Global, writes: &[Write]) -> Result<Items<Write>, Memory>
-    ensures { IfOk result (λ copies. copies ≡ writes.now) }
-{
-    let mut copies = Items::new(alloc);
-    for write in writes {
-        copies.push(write.copy()?)?;
-    }
-    Ok(copies)
+/// What certification says of a slot of the ballot log.
+#[derive(Debug, PartialEq, Eq, Drop)]
+pub enum Verdict {
+    Commit,
+    /// The transaction in the earlier slot, which is named, conflicts with it on this item.
+    Abort { slot: u64, named: Tid, item: Item },
+    /// The transaction stands in an earlier slot.
+    Repeat,
 }

@@ -193,6 +193,7 @@ impl Shard {
                 self.part.commit(me, &tid, vector)?;
                 Ok(out)
             }
+            _ => Ok(out),
         }
     }
 
@@ -376,6 +377,7 @@ fn fits(catalog: &Catalog, message: &Message) -> bool
         Message::Version { .. } => true,
         Message::Prepared { .. } => true,
         Message::Commit { .. } => true,
+        _ => false,
     }
 }
 

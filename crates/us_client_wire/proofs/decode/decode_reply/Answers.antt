@@ -1,5 +1,5 @@
 use Rattle.us_client_wire.specs.Replies.{reply_of, reply_spelling, ReplyFits}
-use Rattle.us_client_wire.proofs.Decoded.{decoded, malformed, refused, is_spelling, no_spelling, spelling_is_read}
+use Rattle.us_fields.proofs.Decoded.{decoded, malformed, refused, is_spelling, no_spelling, spelling_is_read}
 use Rattle.us_client_wire.proofs.ReplyLaws.{reads_replies}
 use Rattle.us_client_wire.proofs.decode.decode_reply.Goals as goal
 

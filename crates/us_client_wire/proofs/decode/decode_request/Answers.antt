@@ -1,5 +1,5 @@
 use Rattle.us_client_wire.specs.Requests.{request_of, request_spelling, RequestFits}
-use Rattle.us_client_wire.proofs.Decoded.{decoded, malformed, refused, is_spelling, no_spelling, spelling_is_read}
+use Rattle.us_fields.proofs.Decoded.{decoded, malformed, refused, is_spelling, no_spelling, spelling_is_read}
 use Rattle.us_client_wire.proofs.RequestLaws.{reads_requests}
 use Rattle.us_client_wire.proofs.decode.decode_request.Goals as goal
 

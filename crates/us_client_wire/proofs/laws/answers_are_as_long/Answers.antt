@@ -1,5 +1,0 @@
-use Rattle.us_client_wire.proofs.AnswerLengths.{answers-are-as-long}
-use Rattle.us_client_wire.proofs.laws.answers_are_as_long.Goals as goal
-
-pub returns : goal.returns
-returns c = answers-are-as-long

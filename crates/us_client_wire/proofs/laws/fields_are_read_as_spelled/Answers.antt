@@ -1,5 +1,0 @@
-use Rattle.us_client_wire.proofs.FieldLaws.{reads_items, reads_ops, reads_answers}
-use Rattle.us_client_wire.proofs.laws.fields_are_read_as_spelled.Goals as goal
-
-pub returns : goal.returns
-returns c = record { items = reads_items; operations = reads_ops; answers = reads_answers }

@@ -1,0 +1,9 @@
+pub mod Fields
+pub mod FieldReadings
+pub mod Reading
+pub mod Lists
+pub mod Effects
+pub mod Tuples
+pub mod Laws
+pub mod Lengths
+pub mod Faults

@@ -1,0 +1,22 @@
+//! Reading and spelling are inverse to each other.
+ghost use Rattle.us_fields.specs.Lengths.{AnswersAreAsLong, WritesAreAsLong};
+ghost use Rattle.us_fields.specs.Laws.{ReadsItems, ReadsOps, ReadsAnswers, ReadsEffects, ReadsWrites};
+
+/// Items, operations, answers, effects and lists of writes are read as they are spelled, whatever follows.
+pub fn fields_are_read_as_spelled()
+    ensures items { ReadsItems }
+    ensures operations { ReadsOps }
+    ensures answers { ReadsAnswers }
+    ensures effects { ReadsEffects }
+    ensures writes { ReadsWrites }
+{}
+
+/// The length that is said of an answer is that of its spelling.
+pub fn answers_are_as_long()
+    ensures { AnswersAreAsLong }
+{}
+
+/// The length that is said of a write is that of its spelling.
+pub fn writes_are_as_long()
+    ensures { WritesAreAsLong }
+{}

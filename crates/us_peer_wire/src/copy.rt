@@ -1,0 +1,245 @@
+//! Copies of packets and of what they hold.
+ghost use Rattle.std.specs.Prelude.{◌≡◌, IfOk};
+
+use crate::{Form, LogEntry, Message, Outcome, OutcomeEnd, Packet, Page, Verdict, Version};
+use std::alloc::Global;
+use us_fields::copies_of;
+use us_kind::Memory;
+use us_value::Effect;
+
+impl Packet {
+    /// A copy of the packet.
+    pub fn copy(&self, alloc: Global) -> Result<Packet, Memory>
+        ensures { IfOk result (λ copy. copy ≡ self.now) }
+    {
+        Ok(Packet {
+            from: self.from,
+            to: self.to,
+            message: self.message.copy(alloc)?,
+        })
+    }
+}
+
+impl Message {
+    /// A copy of the message.
+    pub fn copy(&self, alloc: Global) -> Result<Message, Memory>
+        ensures { IfOk result (λ copy. copy ≡ self.now) }
+    {
+        Ok(match self {
+            Message::Get {
+                tid,
+                place,
+                at,
+                snapshot,
+                item,
+                op,
+                own,
+            } => Message::Get {
+                tid: *tid,
+                place: *place,
+                at: *at,
+                snapshot: *snapshot,
+                item: item.copy()?,
+                op: op.copy()?,
+                own: copies_of(alloc, own.as_slice())?,
+            },
+            Message::Version { version } => Message::Version {
+                version: version.copy()?,
+            },
+            Message::Prepare {
+                tid,
+                snapshot,
+                writes,
+            } => Message::Prepare {
+                tid: *tid,
+                snapshot: *snapshot,
+                writes: copies_of(alloc, writes.as_slice())?,
+            },
+            Message::Prepared { tid, ts } => Message::Prepared { tid: *tid, ts: *ts },
+            Message::Commit { tid, vector } => Message::Commit {
+                tid: *tid,
+                vector: *vector,
+            },
+            Message::Replicate {
+                origin,
+                lo,
+                hi,
+                txs,
+            } => Message::Replicate {
+                origin: *origin,
+                lo: *lo,
+                hi: *hi,
+                txs: copies_of(alloc, txs.as_slice())?,
+            },
+            Message::KnownLocal { known, horizon } => Message::KnownLocal {
+                known: *known,
+                horizon: *horizon,
+            },
+            Message::Stable { vector } => Message::Stable { vector: *vector },
+            Message::KnownGlobal { vector } => Message::KnownGlobal { vector: *vector },
+            Message::Submit { entry } => Message::Submit {
+                entry: entry.copy_in(alloc)?,
+            },
+            Message::Outcome { outcome } => Message::Outcome {
+                outcome: outcome.copy()?,
+            },
+            Message::Deliver { first, pages } => Message::Deliver {
+                first: *first,
+                pages: copies_of(alloc, pages.as_slice())?,
+            },
+            Message::NewBallot { ballot } => Message::NewBallot { ballot: *ballot },
+            Message::Promise {
+                ballot,
+                accepted,
+                base,
+                tail,
+            } => Message::Promise {
+                ballot: *ballot,
+                accepted: *accepted,
+                base: *base,
+                tail: copies_of(alloc, tail.as_slice())?,
+            },
+            Message::NewState { ballot, base, tail } => Message::NewState {
+                ballot: *ballot,
+                base: *base,
+                tail: copies_of(alloc, tail.as_slice())?,
+            },
+            Message::Accept {
+                ballot,
+                slot,
+                entry,
+            } => Message::Accept {
+                ballot: *ballot,
+                slot: *slot,
+                entry: entry.copy_in(alloc)?,
+            },
+            Message::Accepted { ballot, length } => Message::Accepted {
+                ballot: *ballot,
+                length: *length,
+            },
+            Message::CatchUp { length } => Message::CatchUp { length: *length },
+            Message::Learn { first, entries } => Message::Learn {
+                first: *first,
+                entries: copies_of(alloc, entries.as_slice())?,
+            },
+        })
+    }
+}
+
+impl Version {
+    /// A copy of the version.
+    pub fn copy(&self) -> Result<Version, Memory>
+        ensures { IfOk result (λ copy. copy ≡ self.now) }
+    {
+        Ok(Version {
+            tid: self.tid,
+            place: self.place,
+            at: self.at,
+            form: self.form.copy()?,
+        })
+    }
+}
+
+impl Form {
+    /// A copy of the form.
+    pub fn copy(&self) -> Result<Form, Memory>
+        ensures { IfOk result (λ copy. copy ≡ self.now) }
+    {
+        match self {
+            Form::Answered { answer, effect } => Ok(Form::Answered {
+                answer: answer.copy()?,
+                effect: copy_of_effect(effect)?,
+            }),
+            Form::WritesFull => Ok(Form::WritesFull),
+            Form::AnswerFull => Ok(Form::AnswerFull),
+        }
+    }
+}
+
+fn copy_of_effect(effect: &Option<Effect>) -> Result<Option<Effect>, Memory>
+    ensures { IfOk result (λ copy. copy ≡ effect.now) }
+{
+    match effect {
+        Some(effect) => Ok(Some(effect.copy()?)),
+        None => Ok(None),
+    }
+}
+
+impl LogEntry {
+    /// A copy of the entry, with lists of this allocator.
+    pub fn copy_in(&self, alloc: Global) -> Result<LogEntry, Memory>
+        ensures { IfOk result (λ copy. copy ≡ self.now) }
+    {
+        Ok(LogEntry {
+            tid: self.tid,
+            snapshot: self.snapshot,
+            touches: copies_of(alloc, self.touches.as_slice())?,
+            writes: copies_of(alloc, self.writes.as_slice())?,
+        })
+    }
+}
+
+impl Outcome {
+    /// A copy of the outcome.
+    pub fn copy(&self) -> Result<Outcome, Memory>
+        ensures { IfOk result (λ copy. copy ≡ self.now) }
+    {
+        Ok(Outcome {
+            tid: self.tid,
+            slot: self.slot,
+            end: self.end.copy()?,
+        })
+    }
+}
+
+impl OutcomeEnd {
+    /// A copy of the end.
+    pub fn copy(&self) -> Result<OutcomeEnd, Memory>
+        ensures { IfOk result (λ copy. copy ≡ self.now) }
+    {
+        match self {
+            OutcomeEnd::Commit => Ok(OutcomeEnd::Commit),
+            OutcomeEnd::Abort { named, item } => Ok(OutcomeEnd::Abort {
+                named: *named,
+                item: item.copy()?,
+            }),
+        }
+    }
+}
+
+impl Page {
+    /// A copy of the page.
+    pub fn copy(&self, alloc: Global) -> Result<Page, Memory>
+        ensures { IfOk result (λ copy. copy ≡ self.now) }
+    {
+        match self {
+            Page::Skip => Ok(Page::Skip),
+            Page::Holds {
+                tid,
+                vector,
+                writes,
+            } => Ok(Page::Holds {
+                tid: *tid,
+                vector: *vector,
+                writes: copies_of(alloc, writes.as_slice())?,
+            }),
+        }
+    }
+}
+
+impl Verdict {
+    /// A copy of the verdict.
+    pub fn copy(&self) -> Result<Verdict, Memory>
+        ensures { IfOk result (λ copy. copy ≡ self.now) }
+    {
+        match self {
+            Verdict::Commit => Ok(Verdict::Commit),
+            Verdict::Abort { slot, named, item } => Ok(Verdict::Abort {
+                slot: *slot,
+                named: *named,
+                item: item.copy()?,
+            }),
+            Verdict::Repeat => Ok(Verdict::Repeat),
+        }
+    }
+}
