@@ -1,9 +1,8 @@
 -- Every run's history is a snapshot history.
-use Rattle.std.proofs.Common.{◌≡◌, ⊎_elim, ℕ, ◌+◌, ◌<◌, ◌≤◌, ◌^◌, List, [], ◌∷◌, ◌++◌, Bool, true, false, refl, sym, ap, ◌∙◌, subst, arith, true≢false}
+use Rattle.std.proofs.Common.{◌≡◌, ℕ, ◌<◌, ◌≤◌, ◌^◌, List, [], ◌∷◌, ◌++◌, Bool, true, false, refl, sym, ap, ◌∙◌, subst, arith, true≢false}
 use Rattle.std.specs.Prelude.{nat_lt}
 use Rattle.std.proofs.lemmas.Bool.Decides.{nat_tests}
 use Rattle.us_kind.specs.Words.{In}
-use Rattle.us_kind.specs.Updates.{AllLater}
 use Rattle.us_kind.specs.declared.identity.Tid.{Tid}
 use Rattle.us_base.specs.Vector.{at_most, with_entry, sum_of, zero as no_vector}
 use Rattle.us_base.proofs.Vectors.{at_most-true, sum-at_most}
@@ -11,7 +10,7 @@ use Rattle.us_exec.specs.declared.SessionName.{SessionName}
 use Rattle.us_exec.specs.declared.Done.{Done}
 use Rattle.us_exec.specs.WellFormed.{IsOfCoordinator}
 use Rattle.us_history.specs.declared.LogTx.{LogTx}
-use Rattle.us_history.specs.Histories.{Begun, Committed, History, AreNumbered, has_own_vector, ops_of}
+use Rattle.us_history.specs.Histories.{Begun, Committed, AreNumbered, ops_of}
 use Rattle.us_history.specs.States.{own_sum}
 use Rattle.us_snapshots.specs.Snapshots.{IsBegunFirst, AreNamed, GoesOnFrom, LinksLeadOn, HasVector, AllAnswered, IsSnapshotHistory}
 use Rattle.us_snapshots.proofs.Numbers.{later_in, RisesInSession, numbers_ascend}
@@ -63,7 +62,8 @@ of_coordinator last b f = record {
   coord = f.coord ∙ sym (ap (λ (s : SessionName). s.coord) f.session);
 }
 
-module _ (spaces : Spaces) (p : Partition) (l : Ledger) (part : PartitionFacts spaces p l) (all : SharedFacts l) (are : AreNumbered l.history.committed) (plain : IsPlain l.history) where
+module _ (spaces : Spaces) (p : Partition) (l : Ledger) (part : PartitionFacts spaces p l) (all : SharedFacts l) (are : AreNumbered l.history.committed)
+    (plain : IsPlain l.history) where
   abbrev cs : List Committed
   cs = l.history.committed
 
@@ -112,7 +112,8 @@ module _ (spaces : Spaces) (p : Partition) (l : Ledger) (part : PartitionFacts s
   links : LinksLeadOn l.history
   links = record {
     other = λ c b i j g e. no_link b c g;
-    first = later_in (λ c d. c.begun.tid ≡ d.begun.tid → ⊥) (λ c d. GoesOnFrom l.history.links c.begun d → ⊥) cs (λ c d i j apart g. no_link c.begun d g) all.told.apart;
+    first = later_in (λ c d. c.begun.tid ≡ d.begun.tid → ⊥) (λ c d. GoesOnFrom l.history.links c.begun d → ⊥) cs
+        (λ c d i j apart g. no_link c.begun d g) all.told.apart;
   }
 
   answers : (b : Begun) → In b l.history.begun → AllAnswered spaces (decided_in spaces p.log cs) b.tid b.snapshot [] (ops_of b.tid l.history.performed)
@@ -135,6 +136,7 @@ pub every_run_snapshots : EveryRunIsASnapshotHistory
 every_run_snapshots spaces hs conflicts =
     let w = run hs (start spaces) in
     let h = run_facts spaces hs (start spaces) (start_facts spaces) in
-    let l = ledger_of h.shard w.packets w.notes in
-    (decided_in spaces h.shard.partition.log l.history.committed,
-    is_snapshot_history spaces h.shard.partition l h.facts.part h.facts.all (history_numbered w.notes) (history_plain w.notes) conflicts)
+    let l = ledger_of h.shard w.packets w.notes in (
+      decided_in spaces h.shard.partition.log l.history.committed,
+      is_snapshot_history spaces h.shard.partition l h.facts.part h.facts.all (history_numbered w.notes) (history_plain w.notes) conflicts,
+    )
