@@ -3,3 +3,4 @@ pub mod Pasts
 pub mod Arbitration
 pub mod Executions
 pub mod States
+pub mod Example

@@ -1,6 +1,9 @@
 //! What happened to a store's transactions, and the execution that it tells: definitions alone, in `specs/`.
 #![tactic(auto)]
 
+mod example;
+
+pub use example::{one_step_is_less, worked_example};
 use us_base::Vector;
 use us_kind::{Items, Tid};
 use us_value::Write;

@@ -1,5 +1,5 @@
 -- The decided transactions: those of the log, and those that are decided and still prepared.
-use Rattle.std.proofs.Common.{◌≡◌, ◌⊎◌, inl, inr, ⊎_elim, ℕ, ◌<◌, ◌≤◌, ◌^◌, List, [], ◌∷◌, ◌++◌, Bool, true, false, ◌&&◌, refl, sym, ap, ◌∙◌, subst, arith, map, true≢false}
+use Rattle.std.proofs.Common.{◌≡◌, ⊎_elim, ◌<◌, List, [], ◌∷◌, ◌++◌, Bool, true, false, ◌&&◌, refl, sym, ap, ◌∙◌, subst, arith, map, true≢false}
 use Rattle.std.specs.Prelude.{not, filter}
 use Rattle.std.specs.List.{list_any}
 use Rattle.std.proofs.lemmas.Bool.{and_parts, and_from, not-true}
@@ -7,7 +7,7 @@ use Rattle.us_kind.specs.Words.{In, tid_eq}
 use Rattle.us_kind.specs.Updates.{AllLater}
 use Rattle.us_kind.specs.Histories.{all_from}
 use Rattle.us_kind.specs.Ascending.{all_in}
-use Rattle.us_kind.proofs.ListLemmas.{in_front, in_back, in_either, in_filter, filter_in, in_map, FromMap, from_map, goes_by}
+use Rattle.us_kind.proofs.ListLemmas.{in_front, in_back, in_either, in_filter, filter_in, in_map, from_map, goes_by}
 use Rattle.us_kind.proofs.Members.{later_append, later_filter}
 use Rattle.us_kind.proofs.TestLemmas.{tid_eq-true, tid_eq-same}
 use Rattle.us_base.specs.Vector.{entry}
@@ -45,7 +45,8 @@ full spaces p l = record p { log = decided_in spaces p.log l.history.committed }
 
 not_in : (log : List LogTx) (c : Committed) → not (has log c) ≡ true → (e : LogTx) → In e log → e.tid ≡ c.begun.tid → ⊥
 not_in log c none e i same =
-    true≢false (sym (found-any (λ (x : LogTx). tid_eq x.tid c.begun.tid) log e i (ap (λ t. tid_eq t c.begun.tid) same ∙ tid_eq-same c.begun.tid)) ∙ not-true _ none)
+    true≢false (sym (found-any (λ (x : LogTx). tid_eq x.tid c.begun.tid) log e i (ap (λ t. tid_eq t c.begun.tid) same ∙ tid_eq-same c.begun.tid))
+    ∙ not-true _ none)
 
 -- entries of transactions apart are apart
 apart_entries : (spaces : Spaces) (log : List LogTx) (cs : List Committed) → AllLater (λ (c d : Committed). c.begun.tid ≡ d.begun.tid → ⊥) cs

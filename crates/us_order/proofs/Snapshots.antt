@@ -1,9 +1,8 @@
 -- Every run's history is a snapshot history.
-use Rattle.std.proofs.Common.{◌≡◌, ⊎_elim, ℕ, ◌+◌, ◌<◌, ◌≤◌, ◌^◌, List, [], ◌∷◌, ◌++◌, Bool, true, false, refl, sym, ap, ◌∙◌, subst, arith, true≢false}
+use Rattle.std.proofs.Common.{◌≡◌, ℕ, ◌<◌, ◌≤◌, ◌^◌, List, [], ◌∷◌, ◌++◌, Bool, true, false, refl, sym, ap, ◌∙◌, subst, arith, true≢false}
 use Rattle.std.specs.Prelude.{nat_lt}
 use Rattle.std.proofs.lemmas.Bool.Decides.{nat_tests}
 use Rattle.us_kind.specs.Words.{In}
-use Rattle.us_kind.specs.Updates.{AllLater}
 use Rattle.us_kind.specs.declared.identity.Tid.{Tid}
 use Rattle.us_base.specs.Vector.{at_most, with_entry, sum_of, zero as no_vector}
 use Rattle.us_base.proofs.Vectors.{at_most-true, sum-at_most}
@@ -12,7 +11,7 @@ use Rattle.us_exec.specs.declared.Done.{Done}
 use Rattle.us_exec.specs.Conflict.{conflict}
 use Rattle.us_exec.specs.WellFormed.{IsOfCoordinator}
 use Rattle.us_history.specs.declared.LogTx.{LogTx}
-use Rattle.us_history.specs.Histories.{Begun, Committed, History, AreNumbered, has_own_vector, ops_of}
+use Rattle.us_history.specs.Histories.{Begun, Committed, AreNumbered, ops_of}
 use Rattle.us_history.specs.States.{own_sum}
 use Rattle.us_snapshots.specs.Snapshots.{IsBegunFirst, AreNamed, GoesOnFrom, LinksLeadOn, HasVector, AllAnswered, IsSnapshotHistory}
 use Rattle.us_snapshots.proofs.Numbers.{later_in, RisesInSession, numbers_ascend}
@@ -64,7 +63,8 @@ of_coordinator last b f = record {
   coord = f.coord ∙ sym (ap (λ (s : SessionName). s.coord) f.session);
 }
 
-module _ (spaces : Spaces) (p : Partition) (l : Ledger) (part : PartitionFacts spaces p l) (all : SharedFacts l) (are : AreNumbered l.history.committed) (plain : IsPlain l.history) where
+module _ (spaces : Spaces) (p : Partition) (l : Ledger) (part : PartitionFacts spaces p l) (all : SharedFacts l) (are : AreNumbered l.history.committed)
+    (plain : IsPlain l.history) where
   abbrev cs : List Committed
   cs = l.history.committed
 
@@ -113,7 +113,8 @@ module _ (spaces : Spaces) (p : Partition) (l : Ledger) (part : PartitionFacts s
   links : LinksLeadOn l.history
   links = record {
     other = λ c b i j g e. no_link b c g;
-    first = later_in (λ c d. c.begun.tid ≡ d.begun.tid → ⊥) (λ c d. GoesOnFrom l.history.links c.begun d → ⊥) cs (λ c d i j apart g. no_link c.begun d g) all.told.apart;
+    first = later_in (λ c d. c.begun.tid ≡ d.begun.tid → ⊥) (λ c d. GoesOnFrom l.history.links c.begun d → ⊥) cs
+        (λ c d i j apart g. no_link c.begun d g) all.told.apart;
   }
 
   answers : (b : Begun) → In b l.history.begun → AllAnswered spaces (decided_in spaces p.log cs) b.tid b.snapshot [] (ops_of b.tid l.history.performed)

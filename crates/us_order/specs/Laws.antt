@@ -7,7 +7,7 @@ use Rattle.us_exec.specs.Conflict.{conflict}
 use Rattle.us_exec.specs.Consistency.{IsPor}
 use Rattle.us_exec.specs.WellFormed.{IsWellFormed}
 use Rattle.us_history.specs.declared.LogTx.{LogTx}
-use Rattle.us_history.specs.Histories.{Begun, Committed, History}
+use Rattle.us_history.specs.Histories.{Begun, History}
 use Rattle.us_history.specs.Pasts.{leads, count_of, past_of, direct_past}
 use Rattle.us_history.specs.Executions.{execution_by}
 use Rattle.us_snapshots.specs.Snapshots.{IsSnapshotHistory}

@@ -11,7 +11,8 @@ use Rattle.us_snapshots.specs.Ascending.{Ascends}
 use Rattle.us_snapshots.proofs.Pasts.{not_own}
 use Rattle.us_snapshots.proofs.Order.{seq_order}
 
-module _ {spaces : List (ℕ × Kind)} {conflicts : List Done → List Done → Bool} {told : History} {decided : List LogTx} (snap : IsSnapshotHistory spaces conflicts told decided) where
+module _ {spaces : List (ℕ × Kind)} {conflicts : List Done → List Done → Bool} {told : History} {decided : List LogTx}
+    (snap : IsSnapshotHistory spaces conflicts told decided) where
   abbrev cs : List Committed
   cs = told.committed
 

@@ -25,7 +25,8 @@ use Rattle.us_snapshots.proofs.Pasts.{leads-from, earlier_leads, reaches-from, r
 use Rattle.us_snapshots.proofs.Order.{seq_order, reaches_stands}
 use Rattle.us_snapshots.proofs.Reached.{reaches_further, before-by, before-from}
 
-module _ {spaces : List (ℕ × Kind)} {conflicts : List Done → List Done → Bool} {told : History} {decided : List LogTx} (snap : IsSnapshotHistory spaces conflicts told decided) where
+module _ {spaces : List (ℕ × Kind)} {conflicts : List Done → List Done → Bool} {told : History} {decided : List LogTx}
+    (snap : IsSnapshotHistory spaces conflicts told decided) where
   abbrev cs : List Committed
   cs = told.committed
 
@@ -98,7 +99,8 @@ module _ {spaces : List (ℕ × Kind)} {conflicts : List Done → List Done → 
   closed_past t k = record { linked = linked_before t k; closed = λ d e i j a b. further d e i j t k a b }
 
   -- what its session committed before
-  earlier_before : (c : Committed) (t : Begun) → In c cs → c.begun.session ≡ t.session → c.begun.tid.seq < t.tid.seq → is_before (entry_of past c) (past t) ≡ true
+  earlier_before : (c : Committed) (t : Begun) → In c cs → c.begun.session ≡ t.session → c.begun.tid.seq < t.tid.seq
+      → is_before (entry_of past c) (past t) ≡ true
   earlier_before c t i same less =
       let step = leads-from told.links c t (earlier_leads told.links c t (same, less)) in
       before-from told c t i (reaches-from (length cs) told.links cs c t step)
@@ -134,7 +136,9 @@ module _ {spaces : List (ℕ × Kind)} {conflicts : List Done → List Done → 
 
   pub closed : IsClosed (execution_by past_of told)
   closed = record {
-    entries = λ e i. let f = of_entry e i in subst (λ (x : Entry). IsClosedPast (execution_by past_of told) x.session x.past) f.is (closed_past f.source.begun f.begun);
+    entries =
+        λ e i. let f =
+        of_entry e i in subst (λ (x : Entry). IsClosedPast (execution_by past_of told) x.session x.past) f.is (closed_past f.source.begun f.begun);
     loose = λ x i.
         let f = from_loose past told told.begun x i in
         subst (λ (y : Loose). IsClosedPast (execution_by past_of told) y.session y.past) f.is (closed_past f.source f.here);
@@ -144,7 +148,8 @@ module _ {spaces : List (ℕ × Kind)} {conflicts : List Done → List Done → 
   }
 
   -- ORDERED: of two strong ones that conflict, one is in the other's snapshot
-  strong_before : (d e : Entry) (f : OfEntry d) (g : OfEntry e) → d.strong ≡ true → at_most f.source.vector g.source.begun.snapshot ≡ true → is_before d e.past ≡ true
+  strong_before : (d e : Entry) (f : OfEntry d) (g : OfEntry e) → d.strong ≡ true → at_most f.source.vector g.source.begun.snapshot ≡ true
+      → is_before d e.past ≡ true
   strong_before d e f g strong below =
       let own : has_own_vector f.source ≡ true = or_left f.source.strong _ (ap (λ (x : Entry). x.strong) f.is ∙ strong) in
       let before = reached_by_own snap f.source g.source.begun f.here g.begun own below in

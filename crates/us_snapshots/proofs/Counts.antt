@@ -1,5 +1,6 @@
 -- What is counted per session.
-use Rattle.std.proofs.Common.{◌≡◌, ◌⊎◌, inl, inr, ⊎_elim, ℕ, zero, suc, ◌<◌, ◌≤◌, List, [], ◌∷◌, Bool, true, false, ◌&&◌, refl, sym, ap, ◌∙◌, subst, arith, max, cond, true≢false}
+use Rattle.std.proofs.Common.{◌≡◌, ◌⊎◌, inl, inr, ⊎_elim, ℕ, zero, suc, ◌<◌, ◌≤◌, List, [], ◌∷◌, Bool, true, false, ◌&&◌, refl, sym, ap, ◌∙◌, subst, arith, max}
+use Rattle.std.proofs.Common.{cond, true≢false}
 use Rattle.std.specs.Prelude.{nat_lt, nat_le}
 use Rattle.std.proofs.lemmas.Bool.{and_parts, and_from, leb-true}
 use Rattle.std.proofs.lemmas.Bool.Decides.{nat_tests}
@@ -11,14 +12,18 @@ use Rattle.us_history.specs.Pasts.{count_of, counts_of, with_session, sessions_o
 use Rattle.us_snapshots.proofs.Tests.{session_eq-true, session_eq-same}
 
 -- THE GREATEST NUMBER of a transaction of the session that passes
-pub count_of-holds : (test : Committed → Bool) (s : SessionName) (cs : List Committed) (c : Committed) → In c cs → c.begun.session ≡ s → test c ≡ true → c.number ≤ count_of test s cs
+pub count_of-holds : (test : Committed → Bool) (s : SessionName) (cs : List Committed) (c : Committed) → In c cs → c.begun.session ≡ s → test c ≡ true
+    → c.number ≤ count_of test s cs
 count_of-holds test s [] c h e t = absurd h
 count_of-holds test s (d ∷ cs) c h e t = on (session_eq d.begun.session s && test d) refl h (λ i. count_of-holds test s cs c i e t)
   where
-    on : (b : Bool) → (session_eq d.begun.session s && test d) ≡ b → In c (d ∷ cs) → (In c cs → c.number ≤ count_of test s cs) → c.number ≤ cond b (max d.number (count_of test s cs)) (count_of test s cs)
+    on : (b : Bool) → (session_eq d.begun.session s && test d) ≡ b → In c (d ∷ cs) → (In c cs → c.number ≤ count_of test s cs)
+        → c.number ≤ cond b (max d.number (count_of test s cs)) (count_of test s cs)
     on true f (inl k) again = let n : d.number ≡ c.number = ap (λ (x : Committed). x.number) k in omega arith
     on true f (inr i) again = omega (arith, again i)
-    on false f (inl k) again = absurd (true≢false (sym (and_from _ _ (ap (λ (x : Committed). session_eq x.begun.session s) k ∙ ap (λ x. session_eq x s) e ∙ session_eq-same s) (ap test k ∙ t)) ∙ f))
+    on false f (inl k) again =
+        absurd (true≢false (sym (and_from _ _ (ap (λ (x : Committed). session_eq x.begun.session s) k ∙ ap (λ x. session_eq x s) e ∙ session_eq-same s)
+        (ap test k ∙ t)) ∙ f))
     on false f (inr i) again = again i
 
 -- who has at least this number
@@ -36,8 +41,10 @@ count_of-found test s (d ∷ cs) n z h = on (session_eq d.begun.session s && tes
     later : Counted test s cs n → Counted test s (d ∷ cs) n
     later c = record { by = c.by; here = inr c.here; session = c.session; passes = c.passes; number = c.number }
 
-    on : (b : Bool) → (session_eq d.begun.session s && test d) ≡ b → n ≤ cond b (max d.number (count_of test s cs)) (count_of test s cs) → (n ≤ count_of test s cs → Counted test s cs n) → (m : Bool) → nat_le n d.number ≡ m → Counted test s (d ∷ cs) n
-    on true f h again true e = let g = and_parts _ _ f in record { by = d; here = inl refl; session = session_eq-true _ _ g.0; passes = g.1; number = leb-true n d.number e }
+    on : (b : Bool) → (session_eq d.begun.session s && test d) ≡ b → n ≤ cond b (max d.number (count_of test s cs)) (count_of test s cs)
+        → (n ≤ count_of test s cs → Counted test s cs n) → (m : Bool) → nat_le n d.number ≡ m → Counted test s (d ∷ cs) n
+    on true f h again true e =
+        let g = and_parts _ _ f in record { by = d; here = inl refl; session = session_eq-true _ _ g.0; passes = g.1; number = leb-true n d.number e }
     on true f h again false e = later (again (over n d.number (count_of test s cs) e h))
       where
         over : (n a b : ℕ) → nat_le n a ≡ false → n ≤ max a b → n ≤ b
@@ -47,7 +54,8 @@ count_of-found test s (d ∷ cs) n z h = on (session_eq d.begun.session s && tes
             above n a e = grind (arith, nat_tests)
     on false f h again m e = later (again h)
 
-pub count_of-le : (p q : Committed → Bool) (s : SessionName) (cs : List Committed) → ((c : Committed) → In c cs → c.begun.session ≡ s → p c ≡ true → Counted q s cs c.number) → count_of p s cs ≤ count_of q s cs
+pub count_of-le : (p q : Committed → Bool) (s : SessionName) (cs : List Committed)
+    → ((c : Committed) → In c cs → c.begun.session ≡ s → p c ≡ true → Counted q s cs c.number) → count_of p s cs ≤ count_of q s cs
 count_of-le p q s cs more = on (count_of p s cs) refl
   where
     on : (n : ℕ) → count_of p s cs ≡ n → n ≤ count_of q s cs
@@ -61,11 +69,13 @@ count_of-le p q s cs more = on (count_of p s cs) refl
         omega arith
 
 -- THE COUNT OF A SESSION among the counts
-pub counts-most : (test : Committed → Bool) (cs : List Committed) (s : SessionName) (ss : List SessionName) → count_in s (counts_of test cs ss) ≤ count_of test s cs
+pub counts-most : (test : Committed → Bool) (cs : List Committed) (s : SessionName) (ss : List SessionName)
+    → count_in s (counts_of test cs ss) ≤ count_of test s cs
 counts-most test cs s [] = omega arith
 counts-most test cs s (r ∷ rs) = on (nat_lt 0 (count_of test r cs)) (session_eq r s) refl (counts-most test cs s rs)
   where
-    on : (b e : Bool) → session_eq r s ≡ e → count_in s (counts_of test cs rs) ≤ count_of test s cs → count_in s (cond b (record { session = r; count = count_of test r cs } ∷ counts_of test cs rs) (counts_of test cs rs)) ≤ count_of test s cs
+    on : (b e : Bool) → session_eq r s ≡ e → count_in s (counts_of test cs rs) ≤ count_of test s cs
+        → count_in s (cond b (record { session = r; count = count_of test r cs } ∷ counts_of test cs rs) (counts_of test cs rs)) ≤ count_of test s cs
     on true e f again = at e f
       where
         at : (e : Bool) → session_eq r s ≡ e → cond (session_eq r s) (count_of test r cs) (count_in s (counts_of test cs rs)) ≤ count_of test s cs
@@ -73,18 +83,23 @@ counts-most test cs s (r ∷ rs) = on (nat_lt 0 (count_of test r cs)) (session_e
         at false f = rw f again
     on false e f again = again
 
-pub counts-least : (test : Committed → Bool) (cs : List Committed) (s : SessionName) (ss : List SessionName) → In s ss → count_of test s cs ≤ count_in s (counts_of test cs ss)
+pub counts-least : (test : Committed → Bool) (cs : List Committed) (s : SessionName) (ss : List SessionName) → In s ss
+    → count_of test s cs ≤ count_in s (counts_of test cs ss)
 counts-least test cs s [] h = absurd h
 counts-least test cs s (r ∷ rs) h = on (nat_lt 0 (count_of test r cs)) refl h (counts-least test cs s rs)
   where
-    on : (b : Bool) → nat_lt 0 (count_of test r cs) ≡ b → In s (r ∷ rs) → (In s rs → count_of test s cs ≤ count_in s (counts_of test cs rs)) → count_of test s cs ≤ count_in s (cond b (record { session = r; count = count_of test r cs } ∷ counts_of test cs rs) (counts_of test cs rs))
+    on : (b : Bool) → nat_lt 0 (count_of test r cs) ≡ b → In s (r ∷ rs) → (In s rs → count_of test s cs ≤ count_in s (counts_of test cs rs))
+        → count_of test s cs ≤ count_in s (cond b (record { session = r; count = count_of test r cs } ∷ counts_of test cs rs) (counts_of test cs rs))
     on true f h again = at (session_eq r s) refl h
       where
-        at : (e : Bool) → session_eq r s ≡ e → In s (r ∷ rs) → count_of test s cs ≤ cond (session_eq r s) (count_of test r cs) (count_in s (counts_of test cs rs))
+        at : (e : Bool) → session_eq r s ≡ e → In s (r ∷ rs)
+            → count_of test s cs ≤ cond (session_eq r s) (count_of test r cs) (count_in s (counts_of test cs rs))
         at true g h = let k : count_of test r cs ≡ count_of test s cs = ap (λ x. count_of test x cs) (session_eq-true r s g) in rw g (omega arith)
         at false g (inl k) = absurd (true≢false (sym (ap (λ x. session_eq x s) k ∙ session_eq-same s) ∙ g))
         at false g (inr i) = rw g (again i)
-    on false f (inl k) again = let z : count_of test r cs ≤ 0 = none (count_of test r cs) f in let m : count_of test r cs ≡ count_of test s cs = ap (λ x. count_of test x cs) k in omega arith
+    on false f (inl k) again =
+        let z : count_of test r cs ≤ 0 =
+        none (count_of test r cs) f in let m : count_of test r cs ≡ count_of test s cs = ap (λ x. count_of test x cs) k in omega arith
       where
         none : (n : ℕ) → nat_lt 0 n ≡ false → n ≤ 0
         none n e = grind (arith, nat_tests)
@@ -111,7 +126,8 @@ in_with_old x s (r ∷ rs) h = on (session_less r s) (session_eq r s) h (in_with
 
 pub session_in : (c : Committed) (cs : List Committed) → In c cs → In c.begun.session (sessions_of cs)
 session_in c [] h = absurd h
-session_in c (d ∷ cs) (inl e) = subst (λ (x : Committed). In x.begun.session (with_session d.begun.session (sessions_of cs))) e (in_with d.begun.session (sessions_of cs))
+session_in c (d ∷ cs) (inl e) =
+    subst (λ (x : Committed). In x.begun.session (with_session d.begun.session (sessions_of cs))) e (in_with d.begun.session (sessions_of cs))
 session_in c (d ∷ cs) (inr h) = in_with_old c.begun.session d.begun.session (sessions_of cs) (session_in c cs h)
 
 -- a session without committed transactions counts none
@@ -119,7 +135,8 @@ pub no_count : (test : Committed → Bool) (s : SessionName) (cs : List Committe
 no_count test s [] h = refl
 no_count test s (c ∷ cs) h = on (session_eq c.begun.session s) refl (test c) (no_count test s cs (λ i. h (in_with_old s c.begun.session (sessions_of cs) i)))
   where
-    on : (b : Bool) → session_eq c.begun.session s ≡ b → (r : Bool) → count_of test s cs ≡ 0 → cond (b && r) (max c.number (count_of test s cs)) (count_of test s cs) ≡ 0
+    on : (b : Bool) → session_eq c.begun.session s ≡ b → (r : Bool) → count_of test s cs ≡ 0
+        → cond (b && r) (max c.number (count_of test s cs)) (count_of test s cs) ≡ 0
     on true e r again = absurd (h (subst (λ x. In x (sessions_of (c ∷ cs))) (session_eq-true c.begun.session s e) (in_with c.begun.session (sessions_of cs))))
     on false e r again = again
 

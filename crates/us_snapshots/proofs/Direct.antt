@@ -1,5 +1,6 @@
 -- A snapshot history's execution has the pasts that are counted in one step.
-use Rattle.std.proofs.Common.{◌≡◌, ◌⊎◌, inl, inr, ⊎_elim, ℕ, zero, suc, ◌≤◌, List, [], ◌∷◌, length, Bool, true, false, refl, sym, ap, ◌∙◌, subst, arith, cond, true≢false}
+use Rattle.std.proofs.Common.{◌≡◌, ◌⊎◌, inl, inr, ⊎_elim, ℕ, zero, suc, ◌≤◌, List, [], ◌∷◌, length, Bool, true, false, refl, sym, ap, ◌∙◌, subst, arith, cond}
+use Rattle.std.proofs.Common.{true≢false}
 use Rattle.us_kind.specs.Words.{In}
 use Rattle.us_value.specs.declared.operation.Kind.{Kind}
 use Rattle.us_exec.specs.declared.SessionName.{SessionName}
@@ -57,7 +58,8 @@ record BeforeBy (links : List Link) (cs : List Committed) (c : Committed) (t : B
   number : c.number ≤ by.number
   step : leads links by t ≡ true
 
-module _ {spaces : List (ℕ × Kind)} {conflicts : List Done → List Done → Bool} {told : History} {decided : List LogTx} (snap : IsSnapshotHistory spaces conflicts told decided) where
+module _ {spaces : List (ℕ × Kind)} {conflicts : List Done → List Done → Bool} {told : History} {decided : List LogTx}
+    (snap : IsSnapshotHistory spaces conflicts told decided) where
   abbrev cs : List Committed
   cs = told.committed
 
@@ -66,7 +68,8 @@ module _ {spaces : List (ℕ × Kind)} {conflicts : List Done → List Done → 
     itself c t i h = record { by = c; here = i; session = refl; number = omega arith; step = h }
 
     -- through an earlier one of the session what that one is before in one step
-    through : (n : ℕ) (c : Committed) (t : Begun) → In c cs → has_own_vector c ≡ false → (g : Through n told.links cs c t) → BeforeBy told.links cs g.next t → BeforeBy told.links cs c t
+    through : (n : ℕ) (c : Committed) (t : Begun) → In c cs → has_own_vector c ≡ false → (g : Through n told.links cs c t) → BeforeBy told.links cs g.next t
+        → BeforeBy told.links cs c t
     through n c t i own g b = ⊎_elim
         (λ a.
         let less = numbers snap.names c g.next i g.here a.0 a.1 in
@@ -78,14 +81,16 @@ module _ {spaces : List (ℕ × Kind)} {conflicts : List Done → List Done → 
     -- what reaches a transaction is before it in one step
     direct : (n : ℕ) (c : Committed) (t : Begun) → In c cs → In t told.begun → reaches_within n told.links cs c t ≡ true → BeforeBy told.links cs c t
     direct zero c t i j h = itself c t i h
-    direct (suc n) c t i j h = ⊎_elim (λ a. itself c t i a) (λ g. on g (direct n g.next t g.here j g.rest) (has_own_vector c) refl) (last_or_more n told.links cs c t h)
+    direct (suc n) c t i j h =
+        ⊎_elim (λ a. itself c t i a) (λ g. on g (direct n g.next t g.here j g.rest) (has_own_vector c) refl) (last_or_more n told.links cs c t h)
       where
         on : (g : Through n told.links cs c t) → BeforeBy told.links cs g.next t → (b : Bool) → has_own_vector c ≡ b → BeforeBy told.links cs c t
         on g before true own = itself c t i (leads-from told.links c t (own_leads snap c t i j own (reaches_below snap (suc n) c t i j h)))
         on g before false own = through n c t i own g before
 
     -- so what reaches it counts as what leads to it
-    counted_directly : (s : SessionName) (t : Begun) → In t told.begun → count_of (λ c. reaches told.links cs c t) s cs ≡ count_of (λ c. leads told.links c t) s cs
+    counted_directly : (s : SessionName) (t : Begun) → In t told.begun
+        → count_of (λ c. reaches told.links cs c t) s cs ≡ count_of (λ c. leads told.links c t) s cs
     counted_directly s t j =
         let more = count_of-le (λ c. reaches told.links cs c t) (λ c. leads told.links c t) s cs
         (λ c i e r. let d = direct (length cs) c t i j r in record { by = d.by; here = d.here; session = d.session ∙ e; passes = d.step; number = d.number }) in

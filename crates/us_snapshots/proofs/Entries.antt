@@ -50,7 +50,8 @@ ties-apart true true false r s t f h k = absurd (true≢false k)
 ties-apart true true true r s t f h k = f h k
 
 pub precedes-apart : (a b c : Committed) → precedes a b ≡ false → precedes b c ≡ false → precedes a c ≡ false
-precedes-apart a b c h k = lex-apart (sum_of a.vector) (sum_of b.vector) (sum_of c.vector) _ _ _ h k (ties-apart _ _ _ _ _ _ (tid_less-apart a.begun.tid b.begun.tid c.begun.tid))
+precedes-apart a b c h k =
+    lex-apart (sum_of a.vector) (sum_of b.vector) (sum_of c.vector) _ _ _ h k (ties-apart _ _ _ _ _ _ (tid_less-apart a.begun.tid b.begun.tid c.begun.tid))
 
 ties-not : (x y r s : Bool) → (r ≡ true → s ≡ false) → ties x y r ≡ true → ties y x s ≡ false
 ties-not false y r s f h = absurd (true≢false (sym h))
@@ -102,14 +103,16 @@ placed_still : (c d x : Committed) (ds : List Committed) → StandsEarlier c d d
 placed_still c d x [] h = absurd h
 placed_still c d x (y ∷ ds) h = on (precedes y x) h (placed_still c d x ds)
   where
-    on : (b : Bool) → StandsEarlier c d (y ∷ ds) → (StandsEarlier c d ds → StandsEarlier c d (placed x ds)) → StandsEarlier c d (cond b (y ∷ placed x ds) (x ∷ y ∷ ds))
+    on : (b : Bool) → StandsEarlier c d (y ∷ ds) → (StandsEarlier c d ds → StandsEarlier c d (placed x ds))
+        → StandsEarlier c d (cond b (y ∷ placed x ds) (x ∷ y ∷ ds))
     on true (inl e) again = inl (e.0, placed_holds d x ds (inr e.1))
     on true (inr h) again = inr (again h)
     on false h again = inr h
 
 pub stands_arbitrated : (c d : Committed) (cs : List Committed) → StandsEarlier c d cs → precedes d c ≡ false → StandsEarlier c d (arbitrated cs)
 stands_arbitrated c d [] h e = absurd h
-stands_arbitrated c d (x ∷ cs) (inl k) e = subst (λ y. StandsEarlier c d (placed y (arbitrated cs))) (sym k.0) (placed_first c d (arbitrated cs) (arbitrated_holds d cs k.1) e)
+stands_arbitrated c d (x ∷ cs) (inl k) e =
+    subst (λ y. StandsEarlier c d (placed y (arbitrated cs))) (sym k.0) (placed_first c d (arbitrated cs) (arbitrated_holds d cs k.1) e)
 stands_arbitrated c d (x ∷ cs) (inr h) e = placed_still c d x (arbitrated cs) (stands_arbitrated c d cs h e)
 
 -- transactions apart stay so

@@ -35,23 +35,29 @@ not_loose : (past : Begun → List Count) (h : History) (bs : List Begun) (l : L
 not_loose past h [] l i = absurd i
 not_loose past h (b ∷ bs) l i = on (is_committed b.tid h.committed) refl i (not_loose past h bs l)
   where
-    on : (t : Bool) → is_committed b.tid h.committed ≡ t → In l (cond t (loose_of past h bs) (loose_one past h b ∷ loose_of past h bs)) → (In l (loose_of past h bs) → is_committed l.tid h.committed ≡ false) → is_committed l.tid h.committed ≡ false
+    on : (t : Bool) → is_committed b.tid h.committed ≡ t → In l (cond t (loose_of past h bs) (loose_one past h b ∷ loose_of past h bs))
+        → (In l (loose_of past h bs) → is_committed l.tid h.committed ≡ false) → is_committed l.tid h.committed ≡ false
     on true e i again = again i
     on false e (inl k) again = ap (λ (x : Loose). is_committed x.tid h.committed) (sym k) ∙ e
     on false e (inr j) again = again j
 
-loose_apart : (past : Begun → List Count) (h : History) (bs : List Begun) → AllLater (λ (b c : Begun). b.tid ≡ c.tid → ⊥) bs → AllLater (λ (l m : Loose). l.tid ≡ m.tid → ⊥) (loose_of past h bs)
+loose_apart : (past : Begun → List Count) (h : History) (bs : List Begun) → AllLater (λ (b c : Begun). b.tid ≡ c.tid → ⊥) bs
+    → AllLater (λ (l m : Loose). l.tid ≡ m.tid → ⊥) (loose_of past h bs)
 loose_apart past h [] k = tt
 loose_apart past h (b ∷ bs) k = on (is_committed b.tid h.committed) (loose_apart past h bs k.1)
   where
     later : All (λ (m : Loose). b.tid ≡ m.tid → ⊥) (loose_of past h bs)
-    later = all_from (λ (m : Loose). b.tid ≡ m.tid → ⊥) (loose_of past h bs) (λ m i same. let f = from_loose past h bs m i in all_in (λ (c : Begun). b.tid ≡ c.tid → ⊥) bs f.source k.0 f.here (same ∙ sym (ap (λ (x : Loose). x.tid) f.is)))
+    later = all_from (λ (m : Loose). b.tid ≡ m.tid → ⊥) (loose_of past h bs)
+        (λ m i same. let f = from_loose past h bs m i in
+        all_in (λ (c : Begun). b.tid ≡ c.tid → ⊥) bs f.source k.0 f.here (same ∙ sym (ap (λ (x : Loose). x.tid) f.is)))
 
-    on : (t : Bool) → AllLater (λ (l m : Loose). l.tid ≡ m.tid → ⊥) (loose_of past h bs) → AllLater (λ (l m : Loose). l.tid ≡ m.tid → ⊥) (cond t (loose_of past h bs) (loose_one past h b ∷ loose_of past h bs))
+    on : (t : Bool) → AllLater (λ (l m : Loose). l.tid ≡ m.tid → ⊥) (loose_of past h bs)
+        → AllLater (λ (l m : Loose). l.tid ≡ m.tid → ⊥) (cond t (loose_of past h bs) (loose_one past h b ∷ loose_of past h bs))
     on true again = again
     on false again = (later, again)
 
-module _ {spaces : List (ℕ × Kind)} {conflicts : List Done → List Done → Bool} {told : History} {decided : List LogTx} (snap : IsSnapshotHistory spaces conflicts told decided) where
+module _ {spaces : List (ℕ × Kind)} {conflicts : List Done → List Done → Bool} {told : History} {decided : List LogTx}
+    (snap : IsSnapshotHistory spaces conflicts told decided) where
   abbrev cs : List Committed
   cs = told.committed
 
@@ -64,7 +70,8 @@ module _ {spaces : List (ℕ × Kind)} {conflicts : List Done → List Done → 
   -- NUMBERS
   keeps_order : AllLater KeepsOrder cs
   keeps_order = later_in RisesInSession KeepsOrder cs
-      (λ c d i j rises same. not_preceding snap c d j (snap.snapshots.earlier c d.begun i (snap.names.begun d j) same (seqs_ascend snap c d i j same (rises same))))
+      (λ c d i j rises same. not_preceding snap c d j
+      (snap.snapshots.earlier c d.begun i (snap.names.begun d j) same (seqs_ascend snap c d i j same (rises same))))
       (numbers_ascend cs snap.names.numbered)
 
   entries_numbers : (s : SessionName) → numbers_of s es ≡ map (λ (c : Committed). c.number) (of_session s cs)
@@ -128,7 +135,8 @@ module _ {spaces : List (ℕ × Kind)} {conflicts : List Done → List Done → 
   pub well_formed : IsWellFormed (execution_by past_of told)
   well_formed = record {
     numbers = numbers;
-    coordinators = λ e i. let f = of_entry snap e i in subst (λ (x : Entry). IsOfCoordinator x.tid x.session) f.is (snap.names.coordinators f.source.begun f.begun);
+    coordinators =
+        λ e i. let f = of_entry snap e i in subst (λ (x : Entry). IsOfCoordinator x.tid x.session) f.is (snap.names.coordinators f.source.begun f.begun);
     loose_coordinators = λ x i.
         let f = from_loose past told told.begun x i in
         subst (λ (y : Loose). IsOfCoordinator y.tid y.session) f.is (snap.names.coordinators f.source f.here);

@@ -18,7 +18,8 @@ use Rattle.us_snapshots.proofs.Tests.{session_eq-true}
 use Rattle.us_snapshots.proofs.Entries.{in_arbitrated}
 
 -- one of the session, which none of it precedes, comes first
-placed_in : (s : SessionName) (c : Committed) (ds : List Committed) → session_eq c.begun.session s ≡ true → ((d : Committed) → In d ds → session_eq d.begun.session s ≡ true → precedes d c ≡ false)
+placed_in : (s : SessionName) (c : Committed) (ds : List Committed) → session_eq c.begun.session s ≡ true
+    → ((d : Committed) → In d ds → session_eq d.begun.session s ≡ true → precedes d c ≡ false)
     → of_session s (placed c ds) ≡ c ∷ of_session s ds
 placed_in s c [] mine none = on (session_eq c.begun.session s) mine
   where
@@ -34,7 +35,9 @@ placed_in s c (d ∷ ds) mine none = on (precedes d c) refl (session_eq d.begun.
     on : (p : Bool) → precedes d c ≡ p → (b : Bool) → session_eq d.begun.session s ≡ b → of_session s (placed c ds) ≡ c ∷ of_session s ds
         → of_session s (cond p (d ∷ placed c ds) (c ∷ d ∷ ds)) ≡ c ∷ of_session s (d ∷ ds)
     on true e true f again = absurd (true≢false (sym e ∙ none d (inl refl) f))
-    on true e false f again = (λ i. cond (f i) (d ∷ of_session s (placed c ds)) (of_session s (placed c ds))) ∙ again ∙ sym (λ i. c ∷ cond (f i) (d ∷ of_session s ds) (of_session s ds))
+    on true e false f again =
+        (λ i. cond (f i) (d ∷ of_session s (placed c ds)) (of_session s (placed c ds))) ∙ again
+        ∙ sym (λ i. c ∷ cond (f i) (d ∷ of_session s ds) (of_session s ds))
     on false e b f again = first (session_eq c.begun.session s) mine (of_session s (d ∷ ds))
 
 -- one of another session makes no difference
@@ -54,21 +57,27 @@ pub session_kept : (s : SessionName) (cs : List Committed) → AllLater KeepsOrd
 session_kept s [] h = refl
 session_kept s (c ∷ cs) h = on (session_eq c.begun.session s) refl (session_kept s cs h.1)
   where
-    on : (b : Bool) → session_eq c.begun.session s ≡ b → of_session s (arbitrated cs) ≡ of_session s cs → of_session s (placed c (arbitrated cs)) ≡ cond b (c ∷ of_session s cs) (of_session s cs)
+    on : (b : Bool) → session_eq c.begun.session s ≡ b → of_session s (arbitrated cs) ≡ of_session s cs
+        → of_session s (placed c (arbitrated cs)) ≡ cond b (c ∷ of_session s cs) (of_session s cs)
     on true e again =
-        placed_in s c (arbitrated cs) e (λ d i f. all_in (KeepsOrder c) cs d h.0 (in_arbitrated d cs i) (session_eq-true c.begun.session s e ∙ sym (session_eq-true d.begun.session s f)))
+        placed_in s c (arbitrated cs) e (λ d i f. all_in (KeepsOrder c) cs d h.0 (in_arbitrated d cs i)
+        (session_eq-true c.begun.session s e ∙ sym (session_eq-true d.begun.session s f)))
         ∙ ap (λ xs. c ∷ xs) again
     on false e again = placed_out s c (arbitrated cs) e ∙ again
 
 -- THE NUMBERS OF ENTRIES
-pub entry_numbers : (past : Begun → List Count) (s : SessionName) (ds : List Committed) → numbers_of s (entries_of past ds) ≡ map (λ (c : Committed). c.number) (of_session s ds)
+pub entry_numbers : (past : Begun → List Count) (s : SessionName) (ds : List Committed)
+    → numbers_of s (entries_of past ds) ≡ map (λ (c : Committed). c.number) (of_session s ds)
 entry_numbers past s [] = refl
 entry_numbers past s (d ∷ ds) = on (session_eq d.begun.session s) (entry_numbers past s ds)
   where
     on : (b : Bool) → numbers_of s (entries_of past ds) ≡ map (λ (c : Committed). c.number) (of_session s ds)
-        → map (λ (e : Entry). e.number) (cond b (entry_of past d ∷ filter (λ (e : Entry). session_eq e.session s) (entries_of past ds)) (filter (λ (e : Entry). session_eq e.session s) (entries_of past ds))) ≡ map (λ (c : Committed). c.number) (cond b (d ∷ of_session s ds) (of_session s ds))
+        → map (λ (e : Entry). e.number) (cond b (entry_of past d ∷ filter (λ (e : Entry). session_eq e.session s) (entries_of past ds))
+        (filter (λ (e : Entry). session_eq e.session s) (entries_of past ds))) ≡ map (λ (c : Committed). c.number)
+        (cond b (d ∷ of_session s ds) (of_session s ds))
     on true e = ap (λ ns. d.number ∷ ns) e
     on false e = e
 
-pub counted : (cs : List Committed) → map (λ (c : Committed). c.number) cs ≡ range_with_len 1 (length cs) → map (λ (c : Committed). c.number) cs ≡ range_with_len 1 (length (map (λ (c : Committed). c.number) cs))
+pub counted : (cs : List Committed) → map (λ (c : Committed). c.number) cs ≡ range_with_len 1 (length cs)
+    → map (λ (c : Committed). c.number) cs ≡ range_with_len 1 (length (map (λ (c : Committed). c.number) cs))
 counted cs e = e ∙ ap (range_with_len 1) (sym (length-map cs (λ (c : Committed). c.number)))

@@ -12,7 +12,8 @@ use Rattle.us_history.specs.Histories.{Begun, Committed, History, ops_of}
 use Rattle.us_history.specs.Pasts.{past_of}
 use Rattle.us_history.specs.Executions.{execution_by}
 use Rattle.us_snapshots.specs.Snapshots.{IsSnapshotHistory}
-use Rattle.us_snapshots.specs.Laws.{ExecutionsAreWellFormed, ExecutionsAreClosed, ExecutionsAreValued, ExecutionsAreOrdered, CountsAreDirect, ExecutionsAreDirect, HistoriesAscend}
+use Rattle.us_snapshots.specs.Laws.{ExecutionsAreWellFormed, ExecutionsAreClosed, ExecutionsAreValued, ExecutionsAreOrdered, CountsAreDirect}
+use Rattle.us_snapshots.specs.Laws.{ExecutionsAreDirect, HistoriesAscend}
 use Rattle.us_snapshots.proofs.Sources.{from_loose}
 use Rattle.us_snapshots.proofs.Closed.{of_entry, closed, ordered}
 use Rattle.us_snapshots.proofs.Direct.{past-counts, execution-same}
@@ -20,7 +21,8 @@ use Rattle.us_snapshots.proofs.Ascending.{ascends_by}
 use Rattle.us_snapshots.proofs.Formed.{well_formed}
 use Rattle.us_snapshots.proofs.Valued.{values_of}
 
-module _ {spaces : List (ℕ × Kind)} {conflicts : List Done → List Done → Bool} {told : History} {decided : List LogTx} (snap : IsSnapshotHistory spaces conflicts told decided) where
+module _ {spaces : List (ℕ × Kind)} {conflicts : List Done → List Done → Bool} {told : History} {decided : List LogTx}
+    (snap : IsSnapshotHistory spaces conflicts told decided) where
   abbrev cs : List Committed
   cs = told.committed
 
@@ -35,7 +37,8 @@ module _ {spaces : List (ℕ × Kind)} {conflicts : List Done → List Done → 
   valued = record {
     entries = λ e i.
         let f = of_entry snap e i in
-        let h = subst (λ ds. HaveValues es f.source.begun.tid (past_of told f.source.begun) [] ds) (sym (snap.names.ops f.source f.here)) (begun_valued f.source.begun f.begun) in
+        let h = subst (λ ds. HaveValues es f.source.begun.tid (past_of told f.source.begun) [] ds) (sym (snap.names.ops f.source f.here))
+        (begun_valued f.source.begun f.begun) in
         subst (λ (x : Entry). HaveValues es x.tid x.past [] x.ops) f.is h;
     loose = λ x i.
         let f = from_loose (past_of told) told told.begun x i in

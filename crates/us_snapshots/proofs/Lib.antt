@@ -18,3 +18,6 @@ pub mod Seen
 pub mod Valued
 pub mod Laws
 pub mod Reached
+pub mod Held
+pub mod Meets
+pub mod Prepared

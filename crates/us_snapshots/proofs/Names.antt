@@ -35,6 +35,7 @@ module _ {told : History} (names : AreNamed told) where
   pub numbered : (c : Committed) → In c told.committed → (1 ≤ c.number) × (c.number ≤ committed_in c.begun.session told.committed)
   numbered c i =
       let s = c.begun.session in
-      let h = number_within 1 (of_session s told.committed) (names.numbered s) c (filter_in (λ (x : Committed). session_eq x.begun.session s) c told.committed i (session_eq-same s)) in
+      let h = number_within 1 (of_session s told.committed) (names.numbered s) c
+      (filter_in (λ (x : Committed). session_eq x.begun.session s) c told.committed i (session_eq-same s)) in
       let n = counted_session s told.committed in
       (h.0, omega (arith, h.1, n))

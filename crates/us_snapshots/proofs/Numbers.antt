@@ -1,5 +1,6 @@
 -- Each session's committed transactions are numbered from 1, in the order of decision.
-use Rattle.std.proofs.Common.{◌≡◌, ◌∙◌, inl, inr, ℕ, zero, suc, ◌+◌, ◌<◌, ◌≤◌, List, [], ◌∷◌, ◌++◌, length, Bool, true, false, cond, map, refl, sym, ap, subst, arith, append-nil, true≢false}
+use Rattle.std.proofs.Common.{◌≡◌, ◌∙◌, inl, inr, ℕ, zero, suc, ◌+◌, ◌<◌, ◌≤◌, List, [], ◌∷◌, ◌++◌, length, Bool, true, false, cond, map, refl, sym, ap, subst}
+use Rattle.std.proofs.Common.{arith, append-nil, true≢false}
 use Rattle.std.specs.List.{range_with_len}
 use Rattle.std.proofs.lemmas.List.{map-append, length-append}
 use Rattle.std.proofs.lemmas.List.Elements.{filter-append}
@@ -34,7 +35,8 @@ number-above a (c ∷ cs) e d h =
     on here (inl s) again = let n : c.number ≡ d.number = ap (λ (x : Committed). x.number) s in omega arith
     on here (inr i) again = let k = again i in omega arith
 
-pub numbers_rise : (a : ℕ) (cs : List Committed) → map (λ (c : Committed). c.number) cs ≡ range_with_len a (length cs) → AllLater (λ (c d : Committed). c.number < d.number) cs
+pub numbers_rise : (a : ℕ) (cs : List Committed) → map (λ (c : Committed). c.number) cs ≡ range_with_len a (length cs)
+    → AllLater (λ (c d : Committed). c.number < d.number) cs
 numbers_rise a [] e = tt
 numbers_rise a (c ∷ cs) e =
     let here : c.number ≡ a = cc in
@@ -50,20 +52,23 @@ pub counted_session : (s : SessionName) (cs : List Committed) → committed_in s
 counted_session s [] = refl
 counted_session s (c ∷ cs) = on (session_eq c.begun.session s) (counted_session s cs)
   where
-    on : (b : Bool) → committed_in s cs ≡ length (of_session s cs) → cond b (committed_in s cs + 1) (committed_in s cs) ≡ length (cond b (c ∷ of_session s cs) (of_session s cs))
+    on : (b : Bool) → committed_in s cs ≡ length (of_session s cs)
+        → cond b (committed_in s cs + 1) (committed_in s cs) ≡ length (cond b (c ∷ of_session s cs) (of_session s cs))
     on true e = omega (arith, e)
     on false e = e
 
 pub numbers_more : (cs : List Committed) (c : Committed) → AreNumbered cs → c.number ≡ committed_in c.begun.session cs + 1 → AreNumbered (cs ++ c ∷ [])
 numbers_more cs c h number s =
-    let split : of_session s (cs ++ c ∷ []) ≡ of_session s cs ++ of_session s (c ∷ []) = filter-append (λ (x : Committed). session_eq x.begun.session s) cs (c ∷ []) in
+    let split : of_session s (cs ++ c ∷ []) ≡ of_session s cs ++ of_session s (c ∷ []) =
+    filter-append (λ (x : Committed). session_eq x.begun.session s) cs (c ∷ []) in
     subst (λ xs. map (λ (x : Committed). x.number) xs ≡ range_with_len 1 (length xs)) (sym split) (on (session_eq c.begun.session s) refl)
   where
     on : (b : Bool) → session_eq c.begun.session s ≡ b
         → map (λ (x : Committed). x.number) (of_session s cs ++ cond b (c ∷ []) []) ≡ range_with_len 1 (length (of_session s cs ++ cond b (c ∷ []) []))
     on true e =
         let xs = of_session s cs in
-        let same : c.number ≡ 1 + length xs = number ∙ ap (λ q. committed_in q cs + 1) (session_eq-true c.begun.session s e) ∙ omega (arith, counted_session s cs) in
+        let same : c.number ≡ 1 + length xs =
+        number ∙ ap (λ q. committed_in q cs + 1) (session_eq-true c.begun.session s e) ∙ omega (arith, counted_session s cs) in
         let longer : length (xs ++ c ∷ []) ≡ suc (length xs) = omega (arith, length-append xs (c ∷ [])) in
         map-append (λ (x : Committed). x.number) xs (c ∷ [])
         ∙ (λ i. h s i ++ same i ∷ [])
@@ -78,12 +83,18 @@ RisesInSession c d = c.begun.session ≡ d.begun.session → c.number < d.number
 
 rises : (cs : List Committed) → ((s : SessionName) → AllLater (λ (c d : Committed). c.number < d.number) (of_session s cs)) → AllLater RisesInSession cs
 rises [] h = tt
-rises (c ∷ cs) h = (all_from (RisesInSession c) cs (λ d i same. first d (h c.begun.session) (filter_in (λ (x : Committed). session_eq x.begun.session c.begun.session) d cs i (ap (λ x. session_eq x c.begun.session) (sym same) ∙ session_eq-same c.begun.session))), rises cs (λ s. rest s (session_eq c.begun.session s) (h s)))
+rises (c ∷ cs) h = (
+  all_from (RisesInSession c) cs (λ d i same. first d (h c.begun.session)
+      (filter_in (λ (x : Committed). session_eq x.begun.session c.begun.session) d cs i
+      (ap (λ x. session_eq x c.begun.session) (sym same) ∙ session_eq-same c.begun.session))),
+  rises cs (λ s. rest s (session_eq c.begun.session s) (h s)),
+)
   where
     Less : Committed → Committed → Type 0
     Less x y = x.number < y.number
 
-    here : (b : Bool) → b ≡ true → AllLater Less (cond b (c ∷ of_session c.begun.session cs) (of_session c.begun.session cs)) → All (Less c) (of_session c.begun.session cs)
+    here : (b : Bool) → b ≡ true → AllLater Less (cond b (c ∷ of_session c.begun.session cs) (of_session c.begun.session cs))
+        → All (Less c) (of_session c.begun.session cs)
     here true e k = k.0
     here false e k = absurd (true≢false (sym e))
 
@@ -98,7 +109,8 @@ pub numbers_ascend : (cs : List Committed) → AreNumbered cs → AllLater Rises
 numbers_ascend cs are = rises cs (λ s. numbers_rise 1 (of_session s cs) (are s))
 
 -- the numbers that there are
-pub number_within : (a : ℕ) (cs : List Committed) → map (λ (c : Committed). c.number) cs ≡ range_with_len a (length cs) → (d : Committed) → In d cs → (a ≤ d.number) × (d.number < a + length cs)
+pub number_within : (a : ℕ) (cs : List Committed) → map (λ (c : Committed). c.number) cs ≡ range_with_len a (length cs) → (d : Committed) → In d cs
+    → (a ≤ d.number) × (d.number < a + length cs)
 number_within a [] e d h = absurd h
 number_within a (c ∷ cs) e d (inl s) =
     let here : c.number ≡ a = cc in

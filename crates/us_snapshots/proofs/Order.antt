@@ -54,7 +54,8 @@ same_tid b c s t f g e seq =
     let coord : b.coord ≡ c.coord = f.coord ∙ ap (λ (x : SessionName). x.coord) e ∙ sym g.coord in
     λ k. record { site = site k; coord = coord k; seq = seq k }
 
-module _ {spaces : List (ℕ × Kind)} {conflicts : List Done → List Done → Bool} {told : History} {decided : List LogTx} (snap : IsSnapshotHistory spaces conflicts told decided) where
+module _ {spaces : List (ℕ × Kind)} {conflicts : List Done → List Done → Bool} {told : History} {decided : List LogTx}
+    (snap : IsSnapshotHistory spaces conflicts told decided) where
   abbrev cs : List Committed
   cs = told.committed
 
@@ -66,7 +67,8 @@ module _ {spaces : List (ℕ × Kind)} {conflicts : List Done → List Done → 
       decided_one snap.names c d i j (same_tid c.begun.tid d.begun.tid c.begun.session d.begun.session f g e seq)
 
   -- the one with the lesser number was begun first
-  pub seq_order : (c d : Committed) → In c cs → In d cs → c.begun.session ≡ d.begun.session → c.number ≤ d.number → (c ≡ d) ⊎ (c.begun.tid.seq < d.begun.tid.seq)
+  pub seq_order : (c d : Committed) → In c cs → In d cs → c.begun.session ≡ d.begun.session → c.number ≤ d.number
+      → (c ≡ d) ⊎ (c.begun.tid.seq < d.begun.tid.seq)
   seq_order c d i j e le = ⊎_elim
       (λ a. inr a)
       (λ b. ⊎_elim
@@ -76,12 +78,14 @@ module _ {spaces : List (ℕ × Kind)} {conflicts : List Done → List Done → 
       (compare c.begun.tid.seq d.begun.tid.seq)
 
   -- the snapshot covers what the session committed before
-  covered : (c d : Committed) → In c cs → In d cs → c.begun.session ≡ d.begun.session → c.begun.tid.seq < d.begun.tid.seq → at_most c.vector d.begun.snapshot ≡ true
+  covered : (c d : Committed) → In c cs → In d cs → c.begun.session ≡ d.begun.session → c.begun.tid.seq < d.begun.tid.seq
+      → at_most c.vector d.begun.snapshot ≡ true
   covered c d i j e less = snap.snapshots.earlier c d.begun i (snap.names.begun d j) e less
 
   -- WHAT IS BEFORE STANDS EARLIER
   -- of a transaction whose snapshot is above v
-  sum_snapshot : (c : Committed) → In c cs → (v : List ℕ) → at_most v c.begun.snapshot ≡ true → (sum_of v ≤ sum_of c.vector) × (has_own_vector c ≡ true → sum_of v < sum_of c.vector)
+  sum_snapshot : (c : Committed) → In c cs → (v : List ℕ) → at_most v c.begun.snapshot ≡ true
+      → (sum_of v ≤ sum_of c.vector) × (has_own_vector c ≡ true → sum_of v < sum_of c.vector)
   sum_snapshot c i v h =
       let f = snap.vectors c i in
       let grows = at_most-true c.begun.snapshot c.vector f.at_least in

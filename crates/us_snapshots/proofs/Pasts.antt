@@ -103,11 +103,13 @@ last_or_more n links cs c t h = ⊎_elim (λ a. inl a) (λ b. inr (found (any-fo
     found : Found (λ d. leads links c d.begun && reaches_within n links cs d t) cs → Through n links cs c t
     found f = let e = and_parts _ _ f.passes in record { next = f.item; here = f.here; step = e.0; rest = e.1 }
 
-pub one_more : (n : ℕ) (links : List Link) (cs : List Committed) (c : Committed) (t : Begun) → Through n links cs c t → reaches_within (suc n) links cs c t ≡ true
+pub one_more : (n : ℕ) (links : List Link) (cs : List Committed) (c : Committed) (t : Begun) → Through n links cs c t
+    → reaches_within (suc n) links cs c t ≡ true
 one_more n links cs c t g =
     or_right (leads links c t) _ (found-any (λ d. leads links c d.begun && reaches_within n links cs d t) cs g.next g.here (and_from _ _ g.step g.rest))
 
-module _ {spaces : List (ℕ × Kind)} {conflicts : List Done → List Done → Bool} {told : History} {decided : List LogTx} (snap : IsSnapshotHistory spaces conflicts told decided) where
+module _ {spaces : List (ℕ × Kind)} {conflicts : List Done → List Done → Bool} {told : History} {decided : List LogTx}
+    (snap : IsSnapshotHistory spaces conflicts told decided) where
   abbrev cs : List Committed
   cs = told.committed
 
@@ -117,7 +119,8 @@ module _ {spaces : List (ℕ × Kind)} {conflicts : List Done → List Done → 
       ⊎_elim (λ a. snap.snapshots.linked c t i j a) (λ b. ⊎_elim (λ a. snap.snapshots.earlier c t i j a.0 a.1) (λ a. a.1) b) h.by
 
   -- and so is what reaches it
-  pub reaches_below : (n : ℕ) (c : Committed) (t : Begun) → In c cs → In t told.begun → reaches_within n told.links cs c t ≡ true → at_most c.vector t.snapshot ≡ true
+  pub reaches_below : (n : ℕ) (c : Committed) (t : Begun) → In c cs → In t told.begun → reaches_within n told.links cs c t ≡ true
+      → at_most c.vector t.snapshot ≡ true
   reaches_below zero c t i j h = leads_below c t i j (leads-true told.links c t h)
   reaches_below (suc n) c t i j h = ⊎_elim
       (λ a. leads_below c t i j (leads-true told.links c t a))

@@ -52,7 +52,8 @@ joined (suc n) m links cs c d t i h k = ⊎_elim
     record { steps = suc r.steps; reached = one_more r.steps links cs c t (record { next = g.next; here = g.here; step = g.step; rest = r.reached }) })
     (last_or_more n links cs c d.begun h)
 
-module _ {spaces : List (ℕ × Kind)} {conflicts : List Done → List Done → Bool} {told : History} {decided : List LogTx} (snap : IsSnapshotHistory spaces conflicts told decided) where
+module _ {spaces : List (ℕ × Kind)} {conflicts : List Done → List Done → Bool} {told : History} {decided : List LogTx}
+    (snap : IsSnapshotHistory spaces conflicts told decided) where
   abbrev cs : List Committed
   cs = told.committed
 

@@ -47,16 +47,19 @@ of_stamped sum tid item (a ∷ acts) v h = on (item_eq a.item item) refl h (of_s
     more : OfActs sum tid item acts v → OfActs sum tid item (a ∷ acts) v
     more f = record { act = f.act; here = inr f.here; on_item = f.on_item; is = f.is }
 
-    on : (b : Bool) → item_eq a.item item ≡ b → In v (cond b (stamped_as sum tid a ∷ stamped sum tid item acts) (stamped sum tid item acts)) → (In v (stamped sum tid item acts) → OfActs sum tid item acts v) → OfActs sum tid item (a ∷ acts) v
+    on : (b : Bool) → item_eq a.item item ≡ b → In v (cond b (stamped_as sum tid a ∷ stamped sum tid item acts) (stamped sum tid item acts))
+        → (In v (stamped sum tid item acts) → OfActs sum tid item acts v) → OfActs sum tid item (a ∷ acts) v
     on true e (inl s) again = record { act = a; here = inl refl; on_item = e; is = s }
     on true e (inr i) again = more (again i)
     on false e i again = more (again i)
 
-pub in_stamped : (sum : ℕ) (tid : Tid) (item : Item) (acts : List Act) (a : Act) → In a acts → item_eq a.item item ≡ true → In (stamped_as sum tid a) (stamped sum tid item acts)
+pub in_stamped : (sum : ℕ) (tid : Tid) (item : Item) (acts : List Act) (a : Act) → In a acts → item_eq a.item item ≡ true
+    → In (stamped_as sum tid a) (stamped sum tid item acts)
 in_stamped sum tid item [] a h e = absurd h
 in_stamped sum tid item (b ∷ acts) a h e = on (item_eq b.item item) refl h (λ i. in_stamped sum tid item acts a i e)
   where
-    on : (t : Bool) → item_eq b.item item ≡ t → In a (b ∷ acts) → (In a acts → In (stamped_as sum tid a) (stamped sum tid item acts)) → In (stamped_as sum tid a) (cond t (stamped_as sum tid b ∷ stamped sum tid item acts) (stamped sum tid item acts))
+    on : (t : Bool) → item_eq b.item item ≡ t → In a (b ∷ acts) → (In a acts → In (stamped_as sum tid a) (stamped sum tid item acts))
+        → In (stamped_as sum tid a) (cond t (stamped_as sum tid b ∷ stamped sum tid item acts) (stamped sum tid item acts))
     on true f (inl s) again = inl (ap (stamped_as sum tid) s)
     on true f (inr i) again = inr (again i)
     on false f (inl s) again = absurd (true≢false (sym e ∙ ap (λ (x : Act). item_eq x.item item) (sym s) ∙ f))
@@ -79,7 +82,8 @@ places_stand sum tid a b h = record {
   earlier = lex-even sum _ (lex-even tid.site _ (lex-even tid.coord _ (lex-even tid.seq _ (lex-less a.place b.place _ h))));
 }
 
-pub stamped_ordered : (sum : ℕ) (tid : Tid) (item : Item) (acts : List Act) → AllLater (λ (a b : Act). a.place < b.place) acts → AllLater StandsBefore (stamped sum tid item acts)
+pub stamped_ordered : (sum : ℕ) (tid : Tid) (item : Item) (acts : List Act) → AllLater (λ (a b : Act). a.place < b.place) acts
+    → AllLater StandsBefore (stamped sum tid item acts)
 stamped_ordered sum tid item [] h = tt
 stamped_ordered sum tid item (a ∷ acts) h = on (item_eq a.item item) (stamped_ordered sum tid item acts h.1)
   where
@@ -88,14 +92,17 @@ stamped_ordered sum tid item (a ∷ acts) h = on (item_eq a.item item) (stamped_
         let o = of_stamped sum tid item acts v i in
         subst (StandsBefore (stamped_as sum tid a)) o.is (places_stand sum tid a o.act (all_in (λ (b : Act). a.place < b.place) acts o.act h.0 o.here))
 
-    on : (b : Bool) → AllLater StandsBefore (stamped sum tid item acts) → AllLater StandsBefore (cond b (stamped_as sum tid a ∷ stamped sum tid item acts) (stamped sum tid item acts))
+    on : (b : Bool) → AllLater StandsBefore (stamped sum tid item acts)
+        → AllLater StandsBefore (cond b (stamped_as sum tid a ∷ stamped sum tid item acts) (stamped sum tid item acts))
     on true again = (all_from (StandsBefore (stamped_as sum tid a)) (stamped sum tid item acts) first, again)
     on false again = again
 
 -- of two transactions that update, the one that the other doesn't precede
-pub across_stand : (c d : Committed) (a b : Act) → has_own_vector c ≡ true → has_own_vector d ≡ true → precedes d c ≡ false → (c.begun.tid ≡ d.begun.tid → ⊥) → StandsBefore (stamped_as (sum_of c.vector) c.begun.tid a) (stamped_as (sum_of d.vector) d.begun.tid b)
+pub across_stand : (c d : Committed) (a b : Act) → has_own_vector c ≡ true → has_own_vector d ≡ true → precedes d c ≡ false → (c.begun.tid ≡ d.begun.tid → ⊥)
+    → StandsBefore (stamped_as (sum_of c.vector) c.begun.tid a) (stamped_as (sum_of d.vector) d.begun.tid b)
 across_stand c d a b sc sd p apart =
-    let q : lex (sum_of d.vector) (sum_of c.vector) (tid_less d.begun.tid c.begun.tid) ≡ false = sym (λ i. lex (sum_of d.vector) (sum_of c.vector) (ties (sd i) (sc i) (tid_less d.begun.tid c.begun.tid))) ∙ p in
+    let q : lex (sum_of d.vector) (sum_of c.vector) (tid_less d.begun.tid c.begun.tid) ≡ false =
+    sym (λ i. lex (sum_of d.vector) (sum_of c.vector) (ties (sd i) (sc i) (tid_less d.begun.tid c.begun.tid))) ∙ p in
     record {
       apart = λ e. apart (ap (λ (t : Tag). t.tid) e);
       earlier = lex-turn (sum_of c.vector) (sum_of d.vector) _ _ q
@@ -104,8 +111,10 @@ across_stand c d a b sc sd p apart =
           (λ e2 q3. lex-less c.begun.tid.seq d.begun.tid.seq _ (at_seq e1 e2 q3))));
     }
   where
-    at_seq : c.begun.tid.site ≡ d.begun.tid.site → c.begun.tid.coord ≡ d.begun.tid.coord → nat_lt d.begun.tid.seq c.begun.tid.seq ≡ false → c.begun.tid.seq < d.begun.tid.seq
-    at_seq e1 e2 q = let ne : c.begun.tid.seq ≡ d.begun.tid.seq → ⊥ = λ e3. apart (λ i. record { site = e1 i; coord = e2 i; seq = e3 i }) in grind (arith, nat_tests)
+    at_seq : c.begun.tid.site ≡ d.begun.tid.site → c.begun.tid.coord ≡ d.begun.tid.coord → nat_lt d.begun.tid.seq c.begun.tid.seq ≡ false
+        → c.begun.tid.seq < d.begun.tid.seq
+    at_seq e1 e2 q =
+        let ne : c.begun.tid.seq ≡ d.begun.tid.seq → ⊥ = λ e3. apart (λ i. record { site = e1 i; coord = e2 i; seq = e3 i }) in grind (arith, nat_tests)
 
 -- no two are of one update
 abbrev pub TagsApart : List (Stamped Op Effect) → Type 0
@@ -137,7 +146,8 @@ module _ (spaces : List (ℕ × Kind)) (decided : List LogTx) where
       more : SeenBy keep cs item v → SeenBy keep (c ∷ cs) item v
       more f = record { source = f.source; here = inr f.here; is_kept = f.is_kept; of = f.of }
 
-      on : (b : Bool) → keep c ≡ b → In v (cond b (mine ++ seen keep item cs) (seen keep item cs)) → (In v (seen keep item cs) → SeenBy keep cs item v) → SeenBy keep (c ∷ cs) item v
+      on : (b : Bool) → keep c ≡ b → In v (cond b (mine ++ seen keep item cs) (seen keep item cs)) → (In v (seen keep item cs) → SeenBy keep cs item v)
+          → SeenBy keep (c ∷ cs) item v
       on true e i again = ⊎_elim
           (λ j. record { source = c; here = inl refl; is_kept = e; of = of_stamped (sum_of c.vector) c.begun.tid item (acts_in c) v j })
           (λ j. more (again j))
@@ -146,17 +156,20 @@ module _ (spaces : List (ℕ × Kind)) (decided : List LogTx) where
 
   pub in_seen : (keep : Committed → Bool) (item : Item) (cs : List Committed) (v : Stamped Op Effect) → SeenBy keep cs item v → In v (seen keep item cs)
   in_seen keep item [] v h = absurd h.here
-  in_seen keep item (c ∷ cs) v h = on (keep c) refl h.here (λ i. in_seen keep item cs v (record { source = h.source; here = i; is_kept = h.is_kept; of = h.of }))
+  in_seen keep item (c ∷ cs) v h =
+      on (keep c) refl h.here (λ i. in_seen keep item cs v (record { source = h.source; here = i; is_kept = h.is_kept; of = h.of }))
     where
       mine : List (Stamped Op Effect)
       mine = stamped (sum_of c.vector) c.begun.tid item (acts_in c)
 
       first : c ≡ h.source → In v mine
       first s =
-          let o : OfActs (sum_of c.vector) c.begun.tid item (acts_in c) v = subst (λ (x : Committed). OfActs (sum_of x.vector) x.begun.tid item (acts_in x) v) (sym s) h.of in
+          let o : OfActs (sum_of c.vector) c.begun.tid item (acts_in c) v =
+          subst (λ (x : Committed). OfActs (sum_of x.vector) x.begun.tid item (acts_in x) v) (sym s) h.of in
           subst (λ x. In x mine) o.is (in_stamped (sum_of c.vector) c.begun.tid item (acts_in c) o.act o.here o.on_item)
 
-      on : (b : Bool) → keep c ≡ b → (c ≡ h.source) ⊎ In h.source cs → (In h.source cs → In v (seen keep item cs)) → In v (cond b (mine ++ seen keep item cs) (seen keep item cs))
+      on : (b : Bool) → keep c ≡ b → (c ≡ h.source) ⊎ In h.source cs → (In h.source cs → In v (seen keep item cs))
+          → In v (cond b (mine ++ seen keep item cs) (seen keep item cs))
       on true e (inl s) again = in_front v mine (seen keep item cs) (first s)
       on true e (inr i) again = in_back v mine (seen keep item cs) (again i)
       on false e (inl s) again = absurd (true≢false (sym h.is_kept ∙ ap keep (sym s) ∙ e))
@@ -168,7 +181,8 @@ module _ (spaces : List (ℕ × Kind)) (decided : List LogTx) where
       → ((c : Committed) → In c cs → (a : Act) → In a (acts_in c) → has_own_vector c ≡ true)
       → Sorted cs → TidsApart cs → AllLater StandsBefore (seen keep item cs)
   seen_ordered keep item [] places updates sorted apart = tt
-  seen_ordered keep item (c ∷ cs) places updates sorted apart = on (keep c) (seen_ordered keep item cs (λ d i. places d (inr i)) (λ d i. updates d (inr i)) sorted.1 apart.1)
+  seen_ordered keep item (c ∷ cs) places updates sorted apart =
+      on (keep c) (seen_ordered keep item cs (λ d i. places d (inr i)) (λ d i. updates d (inr i)) sorted.1 apart.1)
     where
       mine : List (Stamped Op Effect)
       mine = stamped (sum_of c.vector) c.begun.tid item (acts_in c)
@@ -178,11 +192,13 @@ module _ (spaces : List (ℕ × Kind)) (decided : List LogTx) where
           let a = of_stamped (sum_of c.vector) c.begun.tid item (acts_in c) u i in
           let s = of_seen keep item cs v j in
           let d = s.source in
-          let r = across_stand c d a.act s.of.act (updates c (inl refl) a.act a.here) (updates d (inr s.here) s.of.act s.of.here) (sorted.0 d s.here) (all_in (λ (x : Committed). c.begun.tid ≡ x.begun.tid → ⊥) cs d apart.0 s.here) in
+          let r = across_stand c d a.act s.of.act (updates c (inl refl) a.act a.here) (updates d (inr s.here) s.of.act s.of.here) (sorted.0 d s.here)
+          (all_in (λ (x : Committed). c.begun.tid ≡ x.begun.tid → ⊥) cs d apart.0 s.here) in
           subst (λ x. StandsBefore x v) a.is (subst (StandsBefore (stamped_as (sum_of c.vector) c.begun.tid a.act)) s.of.is r)
 
       on : (b : Bool) → AllLater StandsBefore (seen keep item cs) → AllLater StandsBefore (cond b (mine ++ seen keep item cs) (seen keep item cs))
-      on true again = later_append StandsBefore mine (seen keep item cs) (stamped_ordered (sum_of c.vector) c.begun.tid item (acts_in c) (places c (inl refl))) again across
+      on true again =
+          later_append StandsBefore mine (seen keep item cs) (stamped_ordered (sum_of c.vector) c.begun.tid item (acts_in c) (places c (inl refl))) again across
       on false again = again
 
   -- and a user sees the updates that are visible
@@ -197,8 +213,11 @@ module _ (spaces : List (ℕ × Kind)) (decided : List LogTx) where
       rest : List (Stamped Op Effect)
       rest = seen (λ d. is_before (entry_of pasts d) past) item cs
 
-      on : (b : Bool) → updates_in rest ≡ visible item past (entries_of pasts cs) → updates_in (cond b (mine ++ rest) rest) ≡ cond b (updates_of c.begun.tid item c.ops ++ visible item past (entries_of pasts cs)) (visible item past (entries_of pasts cs))
-      on true e = updates_in-append mine rest ∙ (λ i. updates-are spaces decided (sum_of c.vector) c.begun.tid c.begun.snapshot item c.ops (fits c (inl refl)) i ++ e i)
+      on : (b : Bool) → updates_in rest ≡ visible item past (entries_of pasts cs)
+          → updates_in (cond b (mine ++ rest) rest) ≡ cond b (updates_of c.begun.tid item c.ops ++ visible item past (entries_of pasts cs))
+          (visible item past (entries_of pasts cs))
+      on true e =
+          updates_in-append mine rest ∙ (λ i. updates-are spaces decided c.begun.tid c.begun.snapshot (sum_of c.vector) item c.ops (fits c (inl refl)) i ++ e i)
       on false e = e
 
   -- IN THE ORDER OF THE LOG: with the operations of the decided transactions
@@ -213,7 +232,8 @@ module _ (spaces : List (ℕ × Kind)) (decided : List LogTx) where
       (log_updates cs item sn es (λ x i. f x (inr i)))
 
   -- the machine applies these
-  pub log_applied : (cs : List Committed) (item : Item) (sn : List ℕ) (es : List LogTx) (f : Decisions cs es) (s : State) → after_log item sn s es ≡ state_after updated s (log_updates cs item sn es f)
+  pub log_applied : (cs : List Committed) (item : Item) (sn : List ℕ) (es : List LogTx) (f : Decisions cs es) (s : State)
+      → after_log item sn s es ≡ state_after updated s (log_updates cs item sn es f)
   log_applied cs item sn [] f s = refl
   log_applied cs item sn (e ∷ es) f s = on (at_most e.vector sn) (log_applied cs item sn es (λ x i. f x (inr i)))
     where
@@ -229,7 +249,8 @@ module _ (spaces : List (ℕ × Kind)) (decided : List LogTx) where
       written : after_writes item (sum_of e.vector) e.tid s e.writes ≡ state_after updated s mine
       written = ap (after_writes item (sum_of e.vector) e.tid s) (sym first.writes_is) ∙ writes_applied item (sum_of e.vector) e.tid (acts_in first.decision) s
 
-      on : (b : Bool) → ((s : State) → after_log item sn s es ≡ state_after updated s rest) → after_log item sn (cond b (after_writes item (sum_of e.vector) e.tid s e.writes) s) es ≡ state_after updated s (cond b (mine ++ rest) rest)
+      on : (b : Bool) → ((s : State) → after_log item sn s es ≡ state_after updated s rest)
+          → after_log item sn (cond b (after_writes item (sum_of e.vector) e.tid s e.writes) s) es ≡ state_after updated s (cond b (mine ++ rest) rest)
       on true again = again _ ∙ ap (λ x. state_after updated x rest) written ∙ sym (state_after-append s mine rest)
       on false again = again s
 
@@ -243,7 +264,8 @@ module _ (spaces : List (ℕ × Kind)) (decided : List LogTx) where
     pub in_log : In entry_of es
     pub tid_is : entry_of.tid ≡ v.stamp.tid
 
-  pub of_log_updates : (cs : List Committed) (item : Item) (sn : List ℕ) (es : List LogTx) (f : Decisions cs es) (v : Stamped Op Effect) → In v (log_updates cs item sn es f) → FromBelow cs item sn es v
+  pub of_log_updates : (cs : List Committed) (item : Item) (sn : List ℕ) (es : List LogTx) (f : Decisions cs es) (v : Stamped Op Effect)
+      → In v (log_updates cs item sn es f) → FromBelow cs item sn es v
   of_log_updates cs item sn [] f v h = absurd h
   of_log_updates cs item sn (e ∷ es) f v h = on (at_most e.vector sn) refl h (of_log_updates cs item sn es (λ x i. f x (inr i)) v)
     where
@@ -264,21 +286,26 @@ module _ (spaces : List (ℕ × Kind)) (decided : List LogTx) where
         source = first.decision;
         here = first.here;
         below = ap (λ x. at_most x sn) first.vector_is ∙ b;
-        of = subst (λ x. OfActs (sum_of x) first.decision.begun.tid item (acts_in first.decision) v) (sym first.vector_is) (subst (λ x. OfActs (sum_of e.vector) x item (acts_in first.decision) v) (sym first.tid_is) o);
+        of = subst (λ x. OfActs (sum_of x) first.decision.begun.tid item (acts_in first.decision) v) (sym first.vector_is)
+            (subst (λ x. OfActs (sum_of e.vector) x item (acts_in first.decision) v) (sym first.tid_is) o);
         entry_of = e;
         in_log = inl refl;
         tid_is = ap (λ (x : Stamped Op Effect). x.stamp.tid) o.is;
       }
 
       on : (b : Bool) → at_most e.vector sn ≡ b → In v (cond b (mine ++ rest) rest) → (In v rest → FromBelow cs item sn es v) → FromBelow cs item sn (e ∷ es) v
-      on true b i again = ⊎_elim (λ j. here b (of_stamped (sum_of e.vector) e.tid item (acts_in first.decision) v j)) (λ j. more (again j)) (in_either v mine rest i)
+      on true b i again =
+          ⊎_elim (λ j. here b (of_stamped (sum_of e.vector) e.tid item (acts_in first.decision) v j)) (λ j. more (again j)) (in_either v mine rest i)
       on false b i again = more (again i)
 
-  pub in_log_updates : (cs : List Committed) (item : Item) (sn : List ℕ) (es : List LogTx) (f : Decisions cs es) (c : Committed) (e : LogTx) (v : Stamped Op Effect)
-      → ((d : Committed) → In d cs → d.begun.tid ≡ c.begun.tid → d ≡ c) → In e es → e.tid ≡ c.begun.tid → at_most c.vector sn ≡ true → OfActs (sum_of c.vector) c.begun.tid item (acts_in c) v
+  pub in_log_updates : (cs : List Committed) (item : Item) (sn : List ℕ) (es : List LogTx) (f : Decisions cs es) (c : Committed) (e : LogTx)
+      (v : Stamped Op Effect)
+      → ((d : Committed) → In d cs → d.begun.tid ≡ c.begun.tid → d ≡ c) → In e es → e.tid ≡ c.begun.tid → at_most c.vector sn ≡ true
+      → OfActs (sum_of c.vector) c.begun.tid item (acts_in c) v
       → In v (log_updates cs item sn es f)
   in_log_updates cs item sn [] f c e v once h tid_is below o = absurd h
-  in_log_updates cs item sn (x ∷ es) f c e v once h tid_is below o = on (at_most x.vector sn) refl h (λ i. in_log_updates cs item sn es (λ y k. f y (inr k)) c e v once i tid_is below o)
+  in_log_updates cs item sn (x ∷ es) f c e v once h tid_is below o =
+      on (at_most x.vector sn) refl h (λ i. in_log_updates cs item sn es (λ y k. f y (inr k)) c e v once i tid_is below o)
     where
       first : IsDecision spaces decided cs x
       first = f x (inl refl)
@@ -297,13 +324,15 @@ module _ (spaces : List (ℕ × Kind)) (decided : List LogTx) where
           let d : first.decision ≡ c = decision_is s in
           let vec : c.vector ≡ x.vector = sym (ap (λ (y : Committed). y.vector) d) ∙ first.vector_is in
           let tid : c.begun.tid ≡ x.tid = sym (ap (λ (y : Committed). y.begun.tid) d) ∙ first.tid_is in
-          let one : In (stamped_as (sum_of x.vector) x.tid o.act) mine = in_stamped (sum_of x.vector) x.tid item (acts_in first.decision) o.act (subst (λ y. In o.act (acts_in y)) (sym d) o.here) o.on_item in
+          let one : In (stamped_as (sum_of x.vector) x.tid o.act) mine =
+          in_stamped (sum_of x.vector) x.tid item (acts_in first.decision) o.act (subst (λ y. In o.act (acts_in y)) (sym d) o.here) o.on_item in
           subst (λ y. In y mine) ((λ i. stamped_as (sum_of (sym vec i)) (sym tid i) o.act) ∙ o.is) one
 
       on : (b : Bool) → at_most x.vector sn ≡ b → (x ≡ e) ⊎ In e es → (In e es → In v rest) → In v (cond b (mine ++ rest) rest)
       on true b (inl s) again = in_front v mine rest (in_first s)
       on true b (inr i) again = in_back v mine rest (again i)
-      on false b (inl s) again = absurd (true≢false (sym below ∙ ap (λ y. at_most y sn) (sym (ap (λ (y : Committed). y.vector) (decision_is s)) ∙ first.vector_is) ∙ b))
+      on false b (inl s) again =
+          absurd (true≢false (sym below ∙ ap (λ y. at_most y sn) (sym (ap (λ (y : Committed). y.vector) (decision_is s)) ∙ first.vector_is) ∙ b))
       on false b (inr i) again = again i
 
   pub log_updates_apart : (cs : List Committed) (item : Item) (sn : List ℕ) (es : List LogTx) (f : Decisions cs es)
@@ -329,5 +358,7 @@ module _ (spaces : List (ℕ × Kind)) (decided : List LogTx) where
           (ap (λ (x : Stamped Op Effect). x.stamp.tid) a.is ∙ ap (λ (t : Tag). t.tid) same ∙ sym g.tid_is)
 
       on : (b : Bool) → TagsApart rest → TagsApart (cond b (mine ++ rest) rest)
-      on true again = later_append (λ (u v : Stamped Op Effect). tag_of u.stamp ≡ tag_of v.stamp → ⊥) mine rest (each first.decision first.here (sum_of e.vector) e.tid) again across
+      on true again =
+          later_append (λ (u v : Stamped Op Effect). tag_of u.stamp ≡ tag_of v.stamp → ⊥) mine rest
+          (each first.decision first.here (sum_of e.vector) e.tid) again across
       on false again = again

@@ -31,7 +31,8 @@ from_loose past h (b ∷ bs) l i = on (is_committed b.tid h.committed) i (from_l
     more : FromLoose past h bs l → FromLoose past h (b ∷ bs) l
     more f = record { source = f.source; here = inr f.here; is = f.is }
 
-    on : (t : Bool) → In l (cond t (loose_of past h bs) (loose_one past h b ∷ loose_of past h bs)) → (In l (loose_of past h bs) → FromLoose past h bs l) → FromLoose past h (b ∷ bs) l
+    on : (t : Bool) → In l (cond t (loose_of past h bs) (loose_one past h b ∷ loose_of past h bs)) → (In l (loose_of past h bs) → FromLoose past h bs l)
+        → FromLoose past h (b ∷ bs) l
     on true i again = more (again i)
     on false (inl e) again = record { source = b; here = inl refl; is = e }
     on false (inr i) again = more (again i)
@@ -41,7 +42,8 @@ in_entries past [] c h = absurd h
 in_entries past (d ∷ cs) c (inl e) = inl (ap (entry_of past) e)
 in_entries past (d ∷ cs) c (inr h) = inr (in_entries past cs c h)
 
-pub entries_stand : (past : Begun → List Count) (cs : List Committed) (c d : Committed) → StandsEarlier c d cs → StandsBefore (entry_of past c) (entry_of past d) (entries_of past cs)
+pub entries_stand : (past : Begun → List Count) (cs : List Committed) (c d : Committed) → StandsEarlier c d cs
+    → StandsBefore (entry_of past c) (entry_of past d) (entries_of past cs)
 entries_stand past [] c d h = absurd h
 entries_stand past (x ∷ cs) c d (inl e) = inl (ap (entry_of past) e.0, in_entries past cs d e.1)
 entries_stand past (x ∷ cs) c d (inr h) = inr (entries_stand past cs c d h)

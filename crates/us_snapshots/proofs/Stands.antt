@@ -1,5 +1,6 @@
 -- Which of two committed transactions stands earlier in a list.
-use Rattle.std.proofs.Common.{◌≡◌, ◌⊎◌, inl, inr, ⊎_elim, ℕ, ◌<◌, ◌≤◌, List, [], ◌∷◌, ◌++◌, length, Bool, true, false, cond, refl, sym, ap, ◌∙◌, subst, arith, true≢false}
+use Rattle.std.proofs.Common.{◌≡◌, ◌⊎◌, inl, inr, ⊎_elim, ℕ, ◌<◌, ◌≤◌, List, [], ◌∷◌, ◌++◌, length, Bool, true, false, cond, refl, sym, ap, ◌∙◌, subst, arith}
+use Rattle.std.proofs.Common.{true≢false}
 use Rattle.us_kind.specs.Words.{In, tid_eq}
 use Rattle.us_kind.specs.declared.identity.Tid.{Tid}
 use Rattle.us_kind.proofs.TestLemmas.{tid_eq-same}
@@ -48,7 +49,8 @@ earlier_later R c d (x ∷ xs) h (inl e) = subst (λ y. R y d) e.0 (all_in (R x)
 earlier_later R c d (x ∷ xs) h (inr k) = earlier_later R c d xs h.1 k
 
 -- two of one key are one
-pub apart_one : {X K : Type 0} (key : X → K) (xs : List X) → AllLater (λ (x y : X). key x ≡ key y → ⊥) xs → (x y : X) → In x xs → In y xs → key x ≡ key y → x ≡ y
+pub apart_one : {X K : Type 0} (key : X → K) (xs : List X) → AllLater (λ (x y : X). key x ≡ key y → ⊥) xs → (x y : X) → In x xs → In y xs → key x ≡ key y
+    → x ≡ y
 apart_one {X} {K} key [] h x y i j same = absurd i
 apart_one {X} {K} key (z ∷ xs) h x y (inl e) (inl f) same = sym e ∙ f
 apart_one {X} {K} key (z ∷ xs) h x y (inl e) (inr j) same = absurd (all_in (λ (w : X). key z ≡ key w → ⊥) xs y h.0 j (ap key e ∙ same))

@@ -9,7 +9,10 @@ use Rattle.us_exec.specs.declared.SessionName.{SessionName}
 use Rattle.us_exec.specs.Past.{session_eq}
 
 pub session_eq-true : (a b : SessionName) → session_eq a b ≡ true → a ≡ b
-session_eq-true a b h = let e = and_parts _ _ h in let f = and_parts _ _ e.1 in let e0 = eqb-true _ _ e.0 in let e1 = eqb-true _ _ f.0 in let e2 = eqb-true _ _ f.1 in λ i. record { site = e0 i; coord = e1 i; number = e2 i }
+session_eq-true a b h =
+    let e = and_parts _ _ h in let f =
+    and_parts _ _ e.1 in let e0 =
+    eqb-true _ _ e.0 in let e1 = eqb-true _ _ f.0 in let e2 = eqb-true _ _ f.1 in λ i. record { site = e0 i; coord = e1 i; number = e2 i }
 
 pub session_eq-same : (s : SessionName) → session_eq s s ≡ true
 session_eq-same s = grind arith

@@ -1,89 +1,46 @@
 -- The answers of a transaction are the values of its operations: what it met of the decided ones is, but for the order, what
 -- it sees, and each update that it sees was prepared over those that it is after.
-use Rattle.std.proofs.Common.{◌≡◌, inl, inr, ⊎_elim, ℕ, ◌+◌, ◌<◌, List, [], ◌∷◌, ◌++◌, length, append_assoc, Bool, true, false, ◌&&◌, ◌||◌, refl, sym, ap, ◌∙◌, subst, arith, cond, true≢false, IsPermutation}
+use Rattle.std.proofs.Common.{◌≡◌, ⊎_elim, ℕ, ◌+◌, ◌<◌, List, [], ◌∷◌, ◌++◌, length, append_assoc, Bool, true, false, ◌||◌, refl, sym, ap, ◌∙◌, subst, arith}
+use Rattle.std.proofs.Common.{cond, true≢false, IsPermutation}
 use Rattle.std.specs.Prelude.{nat_lt}
 use Rattle.std.specs.List.{list_any}
-use Rattle.std.proofs.lemmas.Bool.{and_parts, and_from}
 use Rattle.std.proofs.lemmas.List.Sorted.{IsPermutation-append_left}
 use Rattle.us_kind.specs.Words.{In, tid_eq, tag_of}
-use Rattle.us_kind.specs.Updates.{AllLater, Stamped, StandsBefore, WasPreparedInAnyOrder, IsHistoryInAnyOrder, before, with_sum, with_sums, state_after, updates_of as updates_in}
+use Rattle.us_kind.specs.Updates.{AllLater, Stamped, StandsBefore, WasPreparedInAnyOrder, IsHistoryInAnyOrder, updates_of as updates_in}
 use Rattle.us_kind.specs.Histories.{all_from}
 use Rattle.us_kind.specs.declared.identity.Tid.{Tid}
 use Rattle.us_kind.specs.declared.identity.Tag.{Tag}
-use Rattle.us_kind.proofs.ListLemmas.{in_back, in_front, in_either, in_filter, filter_in, in_map, FromMap, from_map}
-use Rattle.us_kind.proofs.Members.{later_append, later_filter, later_map, later_weaker, Distinct, same_members}
-use Rattle.us_kind.proofs.TestLemmas.{tid_eq-true, tid_eq-same}
+use Rattle.us_kind.proofs.ListLemmas.{in_back, in_front, in_either}
+use Rattle.us_kind.proofs.Members.{later_append, later_weaker, same_members}
+use Rattle.us_kind.proofs.TestLemmas.{tid_eq-same}
 use Rattle.us_base.specs.Vector.{at_most, sum_of}
 use Rattle.us_base.proofs.Vectors.{at_most-true, at_most-trans, sum-at_most}
 use Rattle.us_value.specs.declared.item.Item.{Item}
 use Rattle.us_value.specs.declared.operation.Kind.{Kind}
 use Rattle.us_value.specs.declared.operation.Op.{Op}
 use Rattle.us_value.specs.declared.operation.Effect.{Effect}
-use Rattle.us_value.specs.Items.{item_eq}
 use Rattle.us_value.specs.Laws.{AllFit}
 use Rattle.us_value.specs.Values.{op_fits, is_update, initial, updated, answered, prepared, value_of}
 use Rattle.us_value.proofs.KindLaws.{answers-as-defined}
-use Rattle.us_exec.specs.declared.Count.{Count}
 use Rattle.us_exec.specs.declared.Done.{Done}
-use Rattle.us_exec.specs.declared.Entry.{Entry}
-use Rattle.us_exec.specs.Past.{is_before}
 use Rattle.us_exec.specs.Values.{visible, updates_of, holds_tid, past_in, comes_after, HaveValues}
 use Rattle.us_history.specs.declared.LogTx.{LogTx}
 use Rattle.us_history.specs.Histories.{Begun, Committed, History, ops_of, some_update, has_own_vector}
 use Rattle.us_history.specs.Pasts.{past_of}
 use Rattle.us_history.specs.Arbitration.{arbitrated}
-use Rattle.us_history.specs.Executions.{entry_of, entries_of}
-use Rattle.us_history.specs.States.{own_sum, after_log, kind_for}
-use Rattle.us_snapshots.specs.Acts.{Fits, AllFits, Act, met_by, acts_of}
+use Rattle.us_history.specs.Executions.{entries_of}
+use Rattle.us_history.specs.States.{own_sum, kind_for}
+use Rattle.us_snapshots.specs.Acts.{Fits, AllFits, Act, acts_of}
 use Rattle.us_snapshots.specs.Snapshots.{IsAnswered, AllAnswered, IsSnapshotHistory}
-use Rattle.us_snapshots.proofs.Tests.{or_right, any-found, found-any, cond-first, cond-second, apart-test}
-use Rattle.us_snapshots.proofs.Names.{decided_one}
-use Rattle.us_snapshots.proofs.Acts.{item_eq-true, state_after-append, act-updates, earlier, AreActs, are_acts, stamped_as, stamped, own_applied, updates_in-append, updates-are}
+use Rattle.us_snapshots.proofs.Tests.{or_right, cond-first, cond-second, apart-test}
+use Rattle.us_snapshots.proofs.Acts.{item_eq-true, act-updates, are_acts, stamped_as, stamped, updates_in-append, updates-are}
 use Rattle.us_snapshots.proofs.Entries.{in_arbitrated, arbitrated_holds, arbitrated-sorted, arbitrated_apart}
-use Rattle.us_snapshots.proofs.Sources.{from_entry, in_entries}
-use Rattle.us_snapshots.proofs.Pasts.{reaches_below, not_own, reached_by_own}
-use Rattle.us_snapshots.proofs.Reached.{before-by, before-from}
-use Rattle.us_snapshots.proofs.Seen.{OfActs, of_stamped, in_stamped, lex-less, stamped_ordered, TagsApart, acts_in, seen, SeenBy, of_seen, in_seen, seen_ordered, seen_visible, log_updates, log_applied, of_log_updates, in_log_updates, log_updates_apart}
-
--- answered operations are of their items' kinds
-pub answered-fits : (spaces : List (ℕ × Kind)) (decided : List LogTx) (tid : Tid) (sn : List ℕ) (before as' : List Done) → AllAnswered spaces decided tid sn before as' → AllFits spaces as'
-answered-fits spaces decided tid sn before [] h = tt
-answered-fits spaces decided tid sn before (x ∷ as') h = (h.0.fits, answered-fits spaces decided tid sn (before ++ x ∷ []) as' h.1)
-
--- THE PAST OF A COMMITTED TRANSACTION, in the execution
-past_in-of : (past : Begun → List Count) (cs : List Committed) (c : Committed) → ((d : Committed) → In d cs → d.begun.tid ≡ c.begun.tid → d ≡ c) → In c cs → past_in c.begun.tid (entries_of past cs) ≡ past c.begun
-past_in-of past [] c once h = absurd h
-past_in-of past (d ∷ cs) c once h = on (tid_eq d.begun.tid c.begun.tid) refl h (λ i. past_in-of past cs c (λ x k. once x (inr k)) i)
-  where
-    on : (b : Bool) → tid_eq d.begun.tid c.begun.tid ≡ b → In c (d ∷ cs) → (In c cs → past_in c.begun.tid (entries_of past cs) ≡ past c.begun)
-        → cond b (past d.begun) (past_in c.begun.tid (entries_of past cs)) ≡ past c.begun
-    on true e h again = ap (λ (x : Committed). past x.begun) (once d (inl refl) (tid_eq-true d.begun.tid c.begun.tid e))
-    on false e (inl s) again = absurd (true≢false (sym (tid_eq-same c.begun.tid) ∙ ap (λ (x : Committed). tid_eq x.begun.tid c.begun.tid) (sym s) ∙ e))
-    on false e (inr i) again = again i
-
-holds_in : (pasts : Begun → List Count) (cs : List Committed) (c : Committed) (past : List Count) → In c cs → is_before (entry_of pasts c) past ≡ true → holds_tid c.begun.tid past (entries_of pasts cs) ≡ true
-holds_in pasts cs c past i h =
-    found-any (λ (e : Entry). tid_eq e.tid c.begun.tid && is_before e past) (entries_of pasts cs) (entry_of pasts c) (in_entries pasts cs c i)
-    (and_from _ _ (tid_eq-same c.begun.tid) h)
-
--- a committed transaction that a past holds
-record Held (pasts : Begun → List Count) (cs : List Committed) (past : List Count) (tid : Tid) : Type 0 where
-  by : Committed
-  here : In by cs
-  tid_is : by.begun.tid ≡ tid
-  holds : is_before (entry_of pasts by) past ≡ true
-
-holds_by : (pasts : Begun → List Count) (cs : List Committed) (past : List Count) (tid : Tid) → holds_tid tid past (entries_of pasts cs) ≡ true → Held pasts cs past tid
-holds_by pasts cs past tid h =
-    let f = any-found (λ (e : Entry). tid_eq e.tid tid && is_before e past) (entries_of pasts cs) h in
-    let g = from_entry pasts cs f.item f.here in
-    let e = and_parts _ _ f.passes in
-    record {
-      by = g.source;
-      here = g.here;
-      tid_is = ap (λ (x : Entry). x.tid) g.is ∙ tid_eq-true f.item.tid tid e.0;
-      holds = ap (λ x. is_before x past) g.is ∙ e.1;
-    }
+use Rattle.us_snapshots.proofs.Pasts.{not_own}
+use Rattle.us_snapshots.proofs.Seen.{OfActs, of_stamped, lex-less, stamped_ordered, TagsApart, acts_in, seen, of_seen, in_seen, seen_ordered, seen_visible}
+use Rattle.us_snapshots.proofs.Held.{past_in-of, holds_in, Held, holds_by}
+use Rattle.us_snapshots.proofs.Meets.{answered-fits, keeps, once, fits_in, are_in, updates, below_kept, kept_below, met, SeenIn, met_seen, seen_met, met_apart}
+use Rattle.us_snapshots.proofs.Meets.{seen_other, met_is}
+use Rattle.us_snapshots.proofs.Prepared.{Among, was_prepared}
 
 -- the first of operations that update
 any_front : (test : Done → Bool) (xs ys : List Done) → list_any test xs ≡ true → list_any test (xs ++ ys) ≡ true
@@ -94,215 +51,59 @@ any_front test (x ∷ xs) ys h = on (test x) h (any_front test xs ys)
     on true h again = refl
     on false h again = again h
 
--- THE SUM THAT AN UPDATE HAD for a transaction: its own ones aren't committed yet
-abbrev sum_for : Tid → Stamped Op Effect → ℕ
-sum_for tid v = cond (tid_eq v.stamp.tid tid) own_sum v.stamp.sum
-
-other_sum : (tid : Tid) (v : Stamped Op Effect) → (v.stamp.tid ≡ tid → ⊥) → with_sum (sum_for tid v) v ≡ v
-other_sum tid v h = ap (λ n. with_sum n v) (cond-second (tid_eq v.stamp.tid tid) own_sum v.stamp.sum (apart-test v.stamp.tid tid h))
-
-own_stamp : (sum : ℕ) (tid : Tid) (a : Act) → with_sum (sum_for tid (stamped_as sum tid a)) (stamped_as sum tid a) ≡ stamped_as own_sum tid a
-own_stamp sum tid a = ap (λ n. with_sum n (stamped_as sum tid a)) (cond-first (tid_eq tid tid) own_sum sum (tid_eq-same tid))
-
-module _ {spaces : List (ℕ × Kind)} {conflicts : List Done → List Done → Bool} {told : History} {decided : List LogTx} (snap : IsSnapshotHistory spaces conflicts told decided) where
+module _ {spaces : List (ℕ × Kind)} {conflicts : List Done → List Done → Bool} {told : History} {decided : List LogTx}
+    (snap : IsSnapshotHistory spaces conflicts told decided) where
   abbrev cs : List Committed
   cs = told.committed
 
   abbrev es : List Committed
   es = arbitrated cs
 
-  -- the transactions that are before t
-  abbrev keeps : Begun → Committed → Bool
-  keeps t c = is_before (entry_of (past_of told) c) (past_of told t)
-
-  once : (c : Committed) → In c cs → (d : Committed) → In d cs → d.begun.tid ≡ c.begun.tid → d ≡ c
-  once c i d j e = decided_one snap.names d c j i e
-
-  -- A COMMITTED TRANSACTION
-  answers_in : (c : Committed) → In c cs → AllAnswered spaces decided c.begun.tid c.begun.snapshot [] c.ops
-  answers_in c i = subst (AllAnswered spaces decided c.begun.tid c.begun.snapshot []) (sym (snap.names.ops c i)) (snap.answers c.begun (snap.names.begun c i))
-
-  fits_in : (c : Committed) → In c cs → AllFits spaces c.ops
-  fits_in c i = answered-fits spaces decided c.begun.tid c.begun.snapshot [] c.ops (answers_in c i)
-
-  are_in : (c : Committed) → In c cs → AreActs spaces decided c.begun.tid c.begun.snapshot (1 + length c.ops) (acts_in spaces decided c)
-  are_in c i = are_acts spaces decided c.begun.tid c.begun.snapshot c.ops (fits_in c i)
-
-  updates : (c : Committed) → In c cs → (a : Act) → In a (acts_in spaces decided c) → has_own_vector c ≡ true
-  updates c i a j = or_right c.strong (some_update c.ops) (act-updates spaces decided c.begun.tid c.begun.snapshot c.ops (fits_in c i) a j)
-
-  -- BEFORE AND BELOW
-  below_kept : (c : Committed) (t : Begun) → In c cs → In t told.begun → has_own_vector c ≡ true → at_most c.vector t.snapshot ≡ true → keeps t c ≡ true
-  below_kept c t i j st below =
-      before-from told c t i (reached_by_own snap c t i j st below)
-
-  kept_below : (c : Committed) (t : Begun) → In c cs → In t told.begun → keeps t c ≡ true → at_most c.vector t.snapshot ≡ true
-  kept_below c t i j k =
-      reaches_below snap (length cs) c t i j (before-by snap c t i j k)
-
-  -- WHAT A TRANSACTION MEETS, in the order of the decided ones
-  abbrev met : Begun → Item → List (Stamped Op Effect)
-  met t item = log_updates spaces decided cs item t.snapshot decided snap.decisions.each
-
-  abbrev SeenIn : Begun → Item → Stamped Op Effect → Type 0
-  SeenIn t item v = SeenBy spaces decided (keeps t) cs item v
-
-  met_seen : (t : Begun) → In t told.begun → (item : Item) (v : Stamped Op Effect) → In v (met t item) → SeenIn t item v
-  met_seen t j item v i =
-      let m = of_log_updates spaces decided cs item t.snapshot decided snap.decisions.each v i in
-      record { source = m.source; here = m.here; is_kept = below_kept m.source t m.here j (updates m.source m.here m.of.act m.of.here) m.below; of = m.of }
-
-  seen_met : (t : Begun) → In t told.begun → (item : Item) (v : Stamped Op Effect) → SeenIn t item v → In v (met t item)
-  seen_met t j item v s =
-      let below = kept_below s.source t s.here j s.is_kept in
-      let e = snap.decisions.all s.source s.here (updates s.source s.here s.of.act s.of.here) in
-      in_log_updates spaces decided cs item t.snapshot decided snap.decisions.each s.source e.entry_of v (once s.source s.here) e.here e.tid_is below s.of
-
-  acts_apart : (item : Item) (c : Committed) → In c cs → (sum : ℕ) (tid : Tid) → TagsApart (stamped sum tid item (acts_in spaces decided c))
-  acts_apart item c i sum tid =
-      later_weaker StandsBefore (λ (u v : Stamped Op Effect). tag_of u.stamp ≡ tag_of v.stamp → ⊥) (λ u v h. h.apart) (stamped sum tid item (acts_in spaces decided c))
-      (stamped_ordered sum tid item (acts_in spaces decided c) (are_in c i).ascending)
-
-  met_apart : (t : Begun) (item : Item) → TagsApart (met t item)
-  met_apart t item = log_updates_apart spaces decided cs item t.snapshot decided snap.decisions.each (acts_apart item) snap.decisions.once
-
-  -- what a transaction sees is of others
-  seen_other : (t : Begun) → In t told.begun → (item : Item) (v : Stamped Op Effect) → SeenIn t item v → v.stamp.tid ≡ t.tid → ⊥
-  seen_other t j item v s e =
-      not_own snap s.source t s.here j (updates s.source s.here s.of.act s.of.here) (kept_below s.source t s.here j s.is_kept)
-      (ap (λ (x : Stamped Op Effect). x.stamp.tid) s.of.is ∙ e)
-
-  -- the state that it meets after its own ones
-  met_is : (t : Begun) (item : Item) (acts : List Act) → met_by spaces decided t.tid t.snapshot item acts ≡ state_after updated (initial (kind_for spaces item.space)) (met t item ++ stamped own_sum t.tid item acts)
-  met_is t item acts =
-      own_applied item t.tid acts (after_log item t.snapshot (initial (kind_for spaces item.space)) decided)
-      ∙ ap (λ s. state_after updated s (stamped own_sum t.tid item acts)) (log_applied spaces decided cs item t.snapshot decided snap.decisions.each (initial (kind_for spaces item.space)))
-      ∙ sym (state_after-append (initial (kind_for spaces item.space)) (met t item) (stamped own_sum t.tid item acts))
-
-  met_all_apart : (t : Begun) → In t told.begun → (item : Item) (acts : List Act) → AllLater (λ (a b : Act). a.place < b.place) acts → TagsApart (met t item ++ stamped own_sum t.tid item acts)
-  met_all_apart t j item acts places =
-      later_append (λ (u v : Stamped Op Effect). tag_of u.stamp ≡ tag_of v.stamp → ⊥) (met t item) (stamped own_sum t.tid item acts) (met_apart t item)
-      (later_weaker StandsBefore (λ (u v : Stamped Op Effect). tag_of u.stamp ≡ tag_of v.stamp → ⊥) (λ u v h. h.apart) (stamped own_sum t.tid item acts) (stamped_ordered own_sum t.tid item acts places))
-      (λ u v i k e. seen_other t j item u (met_seen t j item u i) (ap (λ (g : Tag). g.tid) e ∙ sym (ap (λ (x : Stamped Op Effect). x.stamp.tid) (of_stamped own_sum t.tid item acts v k).is)))
-
-  -- A TRANSACTION'S UPDATES AMONG OTHERS: its own are all here, and it is after those of the others that it sees
-  record Among (after : Tag → Tag → Bool) (us : List (Stamped Op Effect)) (x : Begun) (sum : ℕ) (item : Item) (acts : List Act) : Type 0 where
-    begun : In x told.begun
-    last : ℕ
-    are : AreActs spaces decided x.tid x.snapshot last acts
-    own_after : (a b : Act) → after (record { tid = x.tid; place = a.place }) (record { tid = x.tid; place = b.place }) ≡ nat_lt b.place a.place
-    own_only : (v : Stamped Op Effect) → In v us → v.stamp.tid ≡ x.tid → OfActs sum x.tid item acts v
-    own_all : (v : Stamped Op Effect) → In v (stamped sum x.tid item acts) → In v us
-    others : (a : Act) (v : Stamped Op Effect) → In v us → (v.stamp.tid ≡ x.tid → ⊥) → after (record { tid = x.tid; place = a.place }) (tag_of v.stamp) ≡ true → SeenIn x item v
-    others_all : (v : Stamped Op Effect) → SeenIn x item v → In v us
-    others_after : (a : Act) (v : Stamped Op Effect) → SeenIn x item v → after (record { tid = x.tid; place = a.place }) (tag_of v.stamp) ≡ true
-
-  -- so each of its updates was prepared over those that it is after
-  was_prepared : (after : Tag → Tag → Bool) (us : List (Stamped Op Effect)) (x : Begun) (sum : ℕ) (item : Item) (acts : List Act) → TagsApart us → Among after us x sum item acts
-      → (a : Act) → In a acts → item_eq a.item item ≡ true → WasPreparedInAnyOrder (initial (kind_for spaces item.space)) updated prepared after us (stamped_as sum x.tid a)
-  was_prepared after us x sum item acts apart h a i on_item = record {
-    sum = sum_for x.tid;
-    met = then';
-    order = same_members (with_sums (sum_for x.tid) (before after u us)) then'
-        (distinct (with_sums (sum_for x.tid) (before after u us)) (later_map Apart (λ v. with_sum (sum_for x.tid v) v) (λ v w k. k) (before after u us) (later_filter Apart (λ v. after (tag_of u.stamp) (tag_of v.stamp)) us apart)))
-        (distinct then' (met_all_apart x h.begun item own (later_filter (λ (b c : Act). b.place < c.place) (λ (b : Act). nat_lt b.place a.place) acts h.are.ascending)))
-        to from;
-    effect = ap (prepared (record { tid = x.tid; place = a.place }) a.op) (sym (met_is x item own) ∙ ap (λ it. met_by spaces decided x.tid x.snapshot it own) (sym (item_eq-true a.item item on_item))) ∙ h.are.made a i;
-  }
-    where
-      u : Stamped Op Effect
-      u = stamped_as sum x.tid a
-
-      own : List Act
-      own = earlier a acts
-
-      then' : List (Stamped Op Effect)
-      then' = met x item ++ stamped own_sum x.tid item own
-
-      Apart : Stamped Op Effect → Stamped Op Effect → Type 0
-      Apart v w = tag_of v.stamp ≡ tag_of w.stamp → ⊥
-
-      distinct : (vs : List (Stamped Op Effect)) → AllLater Apart vs → Distinct vs
-      distinct vs k = later_weaker Apart (λ v w. v ≡ w → ⊥) (λ v w f e. f (ap (λ (y : Stamped Op Effect). tag_of y.stamp) e)) vs k
-
-      to : (w : Stamped Op Effect) → In w (with_sums (sum_for x.tid) (before after u us)) → In w then'
-      to w k = in_now (from_map (λ v. with_sum (sum_for x.tid v) v) w (before after u us) k)
-        where
-          in_now : (f : FromMap (λ v. with_sum (sum_for x.tid v) v) w (before after u us)) → In w then'
-          in_now f = by_tid (tid_eq v.stamp.tid x.tid) refl
-            where
-              v : Stamped Op Effect
-              v = f.source
-
-              there : In v us × (after (tag_of u.stamp) (tag_of v.stamp) ≡ true)
-              there = in_filter (λ y. after (tag_of u.stamp) (tag_of y.stamp)) v us f.here
-
-              by_tid : (b : Bool) → tid_eq v.stamp.tid x.tid ≡ b → In w then'
-              by_tid true e =
-                  let o = h.own_only v there.0 (tid_eq-true v.stamp.tid x.tid e) in
-                  let less : nat_lt o.act.place a.place ≡ true = sym (h.own_after a o.act) ∙ ap (λ (y : Stamped Op Effect). after (tag_of u.stamp) (tag_of y.stamp)) o.is ∙ there.1 in
-                  let is : stamped_as own_sum x.tid o.act ≡ w = sym (own_stamp sum x.tid o.act) ∙ ap (λ y. with_sum (sum_for x.tid y) y) o.is ∙ f.is in
-                  in_back w (met x item) (stamped own_sum x.tid item own)
-                  (subst (λ y. In y (stamped own_sum x.tid item own)) is (in_stamped own_sum x.tid item own o.act (filter_in (λ (b : Act). nat_lt b.place a.place) o.act acts o.here less) o.on_item))
-              by_tid false e =
-                  let other : v.stamp.tid ≡ x.tid → ⊥ = λ s. true≢false (sym (tid_eq-same x.tid) ∙ ap (λ y. tid_eq y x.tid) (sym s) ∙ e) in
-                  let s = h.others a v there.0 other there.1 in
-                  in_front w (met x item) (stamped own_sum x.tid item own) (subst (λ y. In y (met x item)) (sym (other_sum x.tid v other) ∙ f.is) (seen_met x h.begun item v s))
-
-      back : (v w : Stamped Op Effect) → In v us → after (tag_of u.stamp) (tag_of v.stamp) ≡ true → with_sum (sum_for x.tid v) v ≡ w → In w (with_sums (sum_for x.tid) (before after u us))
-      back v w k e is =
-          subst (λ y. In y (with_sums (sum_for x.tid) (before after u us))) is
-          (in_map (λ y. with_sum (sum_for x.tid y) y) v (before after u us) (filter_in (λ y. after (tag_of u.stamp) (tag_of y.stamp)) v us k e))
-
-      from : (w : Stamped Op Effect) → In w then' → In w (with_sums (sum_for x.tid) (before after u us))
-      from w k = ⊎_elim
-          (λ m. let s = met_seen x h.begun item w m in back w w (h.others_all w s) (h.others_after a w s) (other_sum x.tid w (seen_other x h.begun item w s)))
-          (λ m.
-          let o = of_stamped own_sum x.tid item own w m in
-          let f = in_filter (λ (b : Act). nat_lt b.place a.place) o.act acts o.here in
-          let v = stamped_as sum x.tid o.act in
-          back v w (h.own_all v (in_stamped sum x.tid item acts o.act f.0 o.on_item)) (h.own_after a o.act ∙ f.1) (own_stamp sum x.tid o.act ∙ o.is))
-          (in_either w (met x item) (stamped own_sum x.tid item own) k)
-
-  -- WHAT AN OPERATION OF t SEES: the updates of those before t in arbitration order, and then t's own
+  -- WHAT AN OPERATION OF t SEES: the updates snap of those before t in arbitration order, and then t's own
   abbrev own_of : Begun → Item → List Done → List (Stamped Op Effect)
   own_of t item ds = stamped own_sum t.tid item (acts_of spaces decided t.tid t.snapshot ds)
 
   abbrev seen_of : Begun → Item → List (Stamped Op Effect)
-  seen_of t item = seen spaces decided (keeps t) item es
+  seen_of t item = seen spaces decided (keeps snap t) item es
 
   abbrev after_of : Begun → Tag → Tag → Bool
   after_of t = comes_after (entries_of (past_of told) es) t.tid (past_of told t)
 
-  seen_in : (t : Begun) (item : Item) (v : Stamped Op Effect) → In v (seen_of t item) → SeenIn t item v
-  seen_in t item v i = let s = of_seen spaces decided (keeps t) item es v i in record { source = s.source; here = in_arbitrated s.source cs s.here; is_kept = s.is_kept; of = s.of }
+  seen_in : (t : Begun) (item : Item) (v : Stamped Op Effect) → In v (seen_of t item) → SeenIn snap t item v
+  seen_in t item v i =
+      let s = of_seen spaces decided (keeps snap t) item es v i in
+      record { source = s.source; here = in_arbitrated s.source cs s.here; is_kept = s.is_kept; of = s.of }
 
-  in_seen_of : (t : Begun) (item : Item) (v : Stamped Op Effect) → SeenIn t item v → In v (seen_of t item)
-  in_seen_of t item v s = in_seen spaces decided (keeps t) item es v (record { source = s.source; here = arbitrated_holds s.source cs s.here; is_kept = s.is_kept; of = s.of })
+  in_seen_of : (t : Begun) (item : Item) (v : Stamped Op Effect) → SeenIn snap t item v → In v (seen_of t item)
+  in_seen_of t item v s =
+      in_seen spaces decided (keeps snap t) item es v (record { source = s.source; here = arbitrated_holds s.source cs s.here; is_kept = s.is_kept; of = s.of })
 
-  tid_of_seen : (t : Begun) (item : Item) (v : Stamped Op Effect) (s : SeenIn t item v) → s.source.begun.tid ≡ v.stamp.tid
+  tid_of_seen : (t : Begun) (item : Item) (v : Stamped Op Effect) (s : SeenIn snap t item v) → s.source.begun.tid ≡ v.stamp.tid
   tid_of_seen t item v s = ap (λ (x : Stamped Op Effect). x.stamp.tid) s.of.is
 
   tid_of_own : (t : Begun) (item : Item) (ds : List Done) (v : Stamped Op Effect) → In v (own_of t item ds) → t.tid ≡ v.stamp.tid
   tid_of_own t item ds v i = ap (λ (x : Stamped Op Effect). x.stamp.tid) (of_stamped own_sum t.tid item (acts_of spaces decided t.tid t.snapshot ds) v i).is
 
   -- IN ORDER
-  seen_before_own : (t : Begun) → In t told.begun → sum_of t.snapshot < own_sum → (item : Item) (ds : List Done) (u v : Stamped Op Effect) → In u (seen_of t item) → In v (own_of t item ds) → StandsBefore u v
+  seen_before_own : (t : Begun) → In t told.begun → sum_of t.snapshot < own_sum → (item : Item) (ds : List Done) (u v : Stamped Op Effect)
+      → In u (seen_of t item) → In v (own_of t item ds) → StandsBefore u v
   seen_before_own t j small item ds u v i k =
       let s = seen_in t item u i in
       let c = s.source in
-      let a = sum-at_most c.vector t.snapshot (at_most-true c.vector t.snapshot (kept_below c t s.here j s.is_kept)) in
+      let a = sum-at_most c.vector t.snapshot (at_most-true c.vector t.snapshot (kept_below snap c t s.here j s.is_kept)) in
       let o = of_stamped own_sum t.tid item (acts_of spaces decided t.tid t.snapshot ds) v k in
       let first : StandsBefore (stamped_as (sum_of c.vector) c.begun.tid s.of.act) (stamped_as own_sum t.tid o.act) = record {
-        apart = λ e. seen_other t j item u s (sym (tid_of_seen t item u s) ∙ ap (λ (g : Tag). g.tid) e);
+        apart = λ e. seen_other snap t j item u s (sym (tid_of_seen t item u s) ∙ ap (λ (g : Tag). g.tid) e);
         earlier = lex-less (sum_of c.vector) own_sum _ (omega arith);
       } in
       subst (λ x. StandsBefore x v) s.of.is (subst (StandsBefore (stamped_as (sum_of c.vector) c.begun.tid s.of.act)) o.is first)
 
-  all_ordered : (t : Begun) → In t told.begun → sum_of t.snapshot < own_sum → (item : Item) (ds : List Done) → AllFits spaces ds → AllLater StandsBefore (seen_of t item ++ own_of t item ds)
+  all_ordered : (t : Begun) → In t told.begun → sum_of t.snapshot < own_sum → (item : Item) (ds : List Done) → AllFits spaces ds
+      → AllLater StandsBefore (seen_of t item ++ own_of t item ds)
   all_ordered t j small item ds fits =
       later_append StandsBefore (seen_of t item) (own_of t item ds)
-      (seen_ordered spaces decided (keeps t) item es (λ c i. (are_in c (in_arbitrated c cs i)).ascending) (λ c i. updates c (in_arbitrated c cs i)) (arbitrated-sorted cs) (arbitrated_apart cs snap.names.decided_once))
+      (seen_ordered spaces decided (keeps snap t) item es (λ c i. (are_in snap c (in_arbitrated c cs i)).ascending)
+      (λ c i. updates snap c (in_arbitrated c cs i)) (arbitrated-sorted cs) (arbitrated_apart cs snap.names.decided_once))
       (stamped_ordered own_sum t.tid item (acts_of spaces decided t.tid t.snapshot ds) (are_acts spaces decided t.tid t.snapshot ds fits).ascending)
       (seen_before_own t j small item ds)
 
@@ -316,63 +117,76 @@ module _ {spaces : List (ℕ × Kind)} {conflicts : List Done → List Done → 
   past_committed : (t : Begun) (c : Committed) → In c cs → (c.begun.tid ≡ t.tid → ⊥) → HasPast t c.begun
   past_committed t c i other =
       cond-second (tid_eq c.begun.tid t.tid) _ _ (apart-test c.begun.tid t.tid other)
-      ∙ past_in-of (past_of told) es c (λ d k e. once c i d (in_arbitrated d cs k) e) (arbitrated_holds c cs i)
+      ∙ past_in-of (past_of told) es c (λ d k e. once snap c i d (in_arbitrated d cs k) e) (arbitrated_holds c cs i)
 
-  after_own_is : (t x : Begun) (a b : Act) → after_of t (record { tid = x.tid; place = a.place }) (record { tid = x.tid; place = b.place }) ≡ nat_lt b.place a.place
+  after_own_is : (t x : Begun) (a b : Act)
+      → after_of t (record { tid = x.tid; place = a.place }) (record { tid = x.tid; place = b.place }) ≡ nat_lt b.place a.place
   after_own_is t x a b = cond-first (tid_eq x.tid x.tid) _ _ (tid_eq-same x.tid)
 
-  after_other_is : (t x : Begun) → HasPast t x → (a : Act) (v : Stamped Op Effect) → (v.stamp.tid ≡ x.tid → ⊥) → after_of t (record { tid = x.tid; place = a.place }) (tag_of v.stamp) ≡ holds_tid v.stamp.tid (past_of told x) (entries_of (past_of told) es)
+  after_other_is : (t x : Begun) → HasPast t x → (a : Act) (v : Stamped Op Effect) → (v.stamp.tid ≡ x.tid → ⊥)
+      → after_of t (record { tid = x.tid; place = a.place }) (tag_of v.stamp) ≡ holds_tid v.stamp.tid (past_of told x) (entries_of (past_of told) es)
   after_other_is t x past a v other =
       cond-second (tid_eq x.tid v.stamp.tid) _ _ (apart-test x.tid v.stamp.tid (λ e. other (sym e)))
       ∙ ap (λ q. holds_tid v.stamp.tid q (entries_of (past_of told) es)) past
 
-  after_seen : (t x : Begun) → HasPast t x → In x told.begun → (item : Item) (a : Act) (v : Stamped Op Effect) → SeenIn x item v → after_of t (record { tid = x.tid; place = a.place }) (tag_of v.stamp) ≡ true
+  after_seen : (t x : Begun) → HasPast t x → In x told.begun → (item : Item) (a : Act) (v : Stamped Op Effect) → SeenIn snap x item v
+      → after_of t (record { tid = x.tid; place = a.place }) (tag_of v.stamp) ≡ true
   after_seen t x past j item a v s =
-      after_other_is t x past a v (seen_other x j item v s)
+      after_other_is t x past a v (seen_other snap x j item v s)
       ∙ ap (λ tid. holds_tid tid (past_of told x) (entries_of (past_of told) es)) (sym (tid_of_seen x item v s))
       ∙ holds_in (past_of told) es s.source (past_of told x) (arbitrated_holds s.source cs s.here) s.is_kept
 
-  held_after : (t x : Begun) → HasPast t x → (a : Act) (v : Stamped Op Effect) → (v.stamp.tid ≡ x.tid → ⊥) → after_of t (record { tid = x.tid; place = a.place }) (tag_of v.stamp) ≡ true → Held (past_of told) es (past_of told x) v.stamp.tid
+  held_after : (t x : Begun) → HasPast t x → (a : Act) (v : Stamped Op Effect) → (v.stamp.tid ≡ x.tid → ⊥)
+      → after_of t (record { tid = x.tid; place = a.place }) (tag_of v.stamp) ≡ true → Held (past_of told) es (past_of told x) v.stamp.tid
   held_after t x past a v other h = holds_by (past_of told) es (past_of told x) v.stamp.tid (sym (after_other_is t x past a v other) ∙ h)
 
-  -- t's own updates among them
+  -- t's own updates snap among them
   among_own : (t : Begun) → In t told.begun → (item : Item) (ds : List Done) → AllFits spaces ds
-      → Among (after_of t) (seen_of t item ++ own_of t item ds) t own_sum item (acts_of spaces decided t.tid t.snapshot ds)
+      → Among snap (after_of t) (seen_of t item ++ own_of t item ds) t own_sum item (acts_of spaces decided t.tid t.snapshot ds)
   among_own t j item ds fits = record {
     begun = j;
     last = 1 + length ds;
     are = are_acts spaces decided t.tid t.snapshot ds fits;
     own_after = after_own_is t t;
     own_only = λ v i e. ⊎_elim
-        (λ k. absurd (seen_other t j item v (seen_in t item v k) e))
+        (λ k. absurd (seen_other snap t j item v (seen_in t item v k) e))
         (λ k. of_stamped own_sum t.tid item (acts_of spaces decided t.tid t.snapshot ds) v k)
         (in_either v (seen_of t item) (own_of t item ds) i);
     own_all = λ v i. in_back v (seen_of t item) (own_of t item ds) i;
-    others = λ a v i other h. ⊎_elim (λ k. seen_in t item v k) (λ k. absurd (other (sym (tid_of_own t item ds v k)))) (in_either v (seen_of t item) (own_of t item ds) i);
+    others = λ a v i other h. ⊎_elim (λ k. seen_in t item v k) (λ k. absurd (other (sym (tid_of_own t item ds v k))))
+        (in_either v (seen_of t item) (own_of t item ds) i);
     others_all = λ v s. in_front v (seen_of t item) (own_of t item ds) (in_seen_of t item v s);
     others_after = λ a v s. after_seen t t (past_own t) j item a v s;
   }
 
-  -- those of a transaction that t sees among them, where a transaction with own updates of t updates
+  -- those of a transaction that t sees among them, where a transaction with own updates snap of t updates snap
   among_seen : (t : Begun) → In t told.begun → (item : Item) (ds : List Done)
       → ((d : Committed) → In d cs → d.begun.tid ≡ t.tid → (a : Act) → In a (acts_of spaces decided t.tid t.snapshot ds) → has_own_vector d ≡ true)
-      → (c : Committed) → In c cs → keeps t c ≡ true → has_own_vector c ≡ true
-      → Among (after_of t) (seen_of t item ++ own_of t item ds) c.begun (sum_of c.vector) item (acts_in spaces decided c)
+      → (c : Committed) → In c cs → keeps snap t c ≡ true → has_own_vector c ≡ true
+      → Among snap (after_of t) (seen_of t item ++ own_of t item ds) c.begun (sum_of c.vector) item (acts_in spaces decided c)
   among_seen t j item ds own_vector c i k st = record {
     begun = begun_c;
     last = 1 + length c.ops;
-    are = are_in c i;
+    are = are_in snap c i;
     own_after = after_own_is t c.begun;
     own_only = λ v m e. ⊎_elim
         (λ n. let s = seen_in t item v n in
-        subst (λ (x : Committed). OfActs (sum_of x.vector) x.begun.tid item (acts_in spaces decided x) v) (once c i s.source s.here (tid_of_seen t item v s ∙ e)) s.of)
+        subst (λ (x : Committed). OfActs (sum_of x.vector) x.begun.tid item (acts_in spaces decided x) v)
+        (once snap c i s.source s.here (tid_of_seen t item v s ∙ e)) s.of)
         (λ n. absurd (not_t (sym e ∙ sym (tid_of_own t item ds v n))))
         (in_either v (seen_of t item) (own_of t item ds) m);
     own_all = λ v m. in_front v (seen_of t item) (own_of t item ds)
         (in_seen_of t item v (record { source = c; here = i; is_kept = k; of = of_stamped (sum_of c.vector) c.begun.tid item (acts_in spaces decided c) v m }));
     others = λ a v m other h. let held = held_after t c.begun past_c a v other h in ⊎_elim
         (λ n. let s = seen_in t item v n in
-        record { source = s.source; here = s.here; is_kept = subst (λ x. keeps c.begun x ≡ true) (once s.source s.here held.by (in_arbitrated held.by cs held.here) (held.tid_is ∙ sym (tid_of_seen t item v s))) held.holds; of = s.of })
+        record {
+          source = s.source;
+          here = s.here;
+          is_kept =
+              subst (λ x. keeps snap c.begun x ≡ true) (once snap s.source s.here held.by (in_arbitrated held.by cs held.here)
+              (held.tid_is ∙ sym (tid_of_seen t item v s))) held.holds;
+          of = s.of;
+        })
         (λ n. absurd (none_own v n held))
         (in_either v (seen_of t item) (own_of t item ds) m);
     others_all = λ v s. in_front v (seen_of t item) (own_of t item ds) (in_seen_of t item v (further v s));
@@ -383,7 +197,7 @@ module _ {spaces : List (ℕ × Kind)} {conflicts : List Done → List Done → 
       begun_c = snap.names.begun c i
 
       below : at_most c.vector t.snapshot ≡ true
-      below = kept_below c t i j k
+      below = kept_below snap c t i j k
 
       not_t : c.begun.tid ≡ t.tid → ⊥
       not_t = not_own snap c t i j st below
@@ -392,14 +206,16 @@ module _ {spaces : List (ℕ × Kind)} {conflicts : List Done → List Done → 
       past_c = past_committed t c i not_t
 
       -- what is before c is below t
-      below_t : (d : Committed) → In d cs → keeps c.begun d ≡ true → at_most d.vector t.snapshot ≡ true
-      below_t d n h = at_most-trans d.vector c.vector t.snapshot (at_most-trans d.vector c.begun.snapshot c.vector (kept_below d c.begun n begun_c h) (snap.vectors c i).at_least) below
+      below_t : (d : Committed) → In d cs → keeps snap c.begun d ≡ true → at_most d.vector t.snapshot ≡ true
+      below_t d n h =
+          at_most-trans d.vector c.vector t.snapshot (at_most-trans d.vector c.begun.snapshot c.vector (kept_below snap d c.begun n begun_c h)
+          (snap.vectors c i).at_least) below
 
-      further : (v : Stamped Op Effect) → SeenIn c.begun item v → SeenIn t item v
+      further : (v : Stamped Op Effect) → SeenIn snap c.begun item v → SeenIn snap t item v
       further v s = record {
         source = s.source;
         here = s.here;
-        is_kept = below_kept s.source t s.here j (updates s.source s.here s.of.act s.of.here) (below_t s.source s.here s.is_kept);
+        is_kept = below_kept snap s.source t s.here j (updates snap s.source s.here s.of.act s.of.here) (below_t s.source s.here s.is_kept);
         of = s.of;
       }
 
@@ -420,10 +236,12 @@ module _ {spaces : List (ℕ × Kind)} {conflicts : List Done → List Done → 
     made = λ u m. ⊎_elim
         (λ n. let s = seen_in t item u n in
         let c = s.source in
-        let among = among_seen t j item ds own_vector c s.here s.is_kept (updates c s.here s.of.act s.of.here) in
-        subst Made s.of.is (was_prepared (after_of t) us c.begun (sum_of c.vector) item (acts_in spaces decided c) apart among s.of.act s.of.here s.of.on_item))
+        let among = among_seen t j item ds own_vector c s.here s.is_kept (updates snap c s.here s.of.act s.of.here) in
+        subst Made s.of.is (was_prepared snap (after_of t) us c.begun (sum_of c.vector) item
+        (acts_in spaces decided c) apart among s.of.act s.of.here s.of.on_item))
         (λ n. let o = of_stamped own_sum t.tid item (acts_of spaces decided t.tid t.snapshot ds) u n in
-        subst Made o.is (was_prepared (after_of t) us t own_sum item (acts_of spaces decided t.tid t.snapshot ds) apart (among_own t j item ds fits) o.act o.here o.on_item))
+        subst Made o.is (was_prepared snap (after_of t) us t own_sum item (acts_of spaces decided t.tid t.snapshot ds) apart
+        (among_own t j item ds fits) o.act o.here o.on_item))
         (in_either u (seen_of t item) (own_of t item ds) m);
   }
     where
@@ -441,46 +259,56 @@ module _ {spaces : List (ℕ × Kind)} {conflicts : List Done → List Done → 
 
   -- THE DECIDED ONES HOLD WHAT IS SEEN, in another order
   other_order : (t : Begun) → In t told.begun → (item : Item) (ds : List Done) → AllFits spaces ds
-      → IsPermutation (seen_of t item ++ own_of t item ds) (met t item ++ own_of t item ds)
+      → IsPermutation (seen_of t item ++ own_of t item ds) (met snap t item ++ own_of t item ds)
   other_order t j item ds fits =
-      IsPermutation-append_left (own_of t item ds) (seen_of t item) (met t item)
-      (same_members (seen_of t item) (met t item)
+      IsPermutation-append_left (own_of t item ds) (seen_of t item) (met snap t item)
+      (same_members (seen_of t item) (met snap t item)
       (later_weaker StandsBefore (λ v w. v ≡ w → ⊥) (λ v w f e. f.apart (ap (λ (y : Stamped Op Effect). tag_of y.stamp) e)) (seen_of t item)
-      (seen_ordered spaces decided (keeps t) item es (λ c i. (are_in c (in_arbitrated c cs i)).ascending) (λ c i. updates c (in_arbitrated c cs i)) (arbitrated-sorted cs) (arbitrated_apart cs snap.names.decided_once)))
-      (later_weaker (λ (v w : Stamped Op Effect). tag_of v.stamp ≡ tag_of w.stamp → ⊥) (λ v w. v ≡ w → ⊥) (λ v w f e. f (ap (λ (y : Stamped Op Effect). tag_of y.stamp) e)) (met t item) (met_apart t item))
-      (λ v i. seen_met t j item v (seen_in t item v i))
-      (λ v i. in_seen_of t item v (met_seen t j item v i)))
+      (seen_ordered spaces decided (keeps snap t) item es (λ c i. (are_in snap c (in_arbitrated c cs i)).ascending)
+      (λ c i. updates snap c (in_arbitrated c cs i)) (arbitrated-sorted cs) (arbitrated_apart cs snap.names.decided_once)))
+      (later_weaker (λ (v w : Stamped Op Effect). tag_of v.stamp ≡ tag_of w.stamp → ⊥) (λ v w. v ≡ w → ⊥)
+      (λ v w f e. f (ap (λ (y : Stamped Op Effect). tag_of y.stamp) e)) (met snap t item) (met_apart snap t item))
+      (λ v i. seen_met snap t j item v (seen_in t item v i))
+      (λ v i. in_seen_of t item v (met_seen snap t j item v i)))
 
   -- all of the item's kind
   all_fit : (t : Begun) (item : Item) (ds : List Done) → AllFits spaces ds → AllFit (kind_for spaces item.space) (seen_of t item ++ own_of t item ds)
   all_fit t item ds fits = all_from (λ (u : Stamped Op Effect). op_fits (kind_for spaces item.space) u.op ≡ true) (seen_of t item ++ own_of t item ds)
       (λ u m. ⊎_elim
-      (λ n. let s = seen_in t item u n in fit_of (sum_of s.source.vector) s.source.begun.tid (acts_in spaces decided s.source) u s.of ((are_in s.source s.here).fit s.of.act s.of.here))
-      (λ n. let o = of_stamped own_sum t.tid item (acts_of spaces decided t.tid t.snapshot ds) u n in fit_of own_sum t.tid (acts_of spaces decided t.tid t.snapshot ds) u o ((are_acts spaces decided t.tid t.snapshot ds fits).fit o.act o.here))
+      (λ n. let s = seen_in t item u n in fit_of (sum_of s.source.vector) s.source.begun.tid (acts_in spaces decided s.source) u s.of
+      ((are_in snap s.source s.here).fit s.of.act s.of.here))
+      (λ n. let o = of_stamped own_sum t.tid item (acts_of spaces decided t.tid t.snapshot ds) u n in
+      fit_of own_sum t.tid (acts_of spaces decided t.tid t.snapshot ds) u o ((are_acts spaces decided t.tid t.snapshot ds fits).fit o.act o.here))
       (in_either u (seen_of t item) (own_of t item ds) m))
     where
-      fit_of : (sum : ℕ) (tid : Tid) (acts : List Act) (u : Stamped Op Effect) → (o : OfActs sum tid item acts u) → Fits spaces o.act.item o.act.op → op_fits (kind_for spaces item.space) u.op ≡ true
+      fit_of : (sum : ℕ) (tid : Tid) (acts : List Act) (u : Stamped Op Effect) → (o : OfActs sum tid item acts u) → Fits spaces o.act.item o.act.op
+          → op_fits (kind_for spaces item.space) u.op ≡ true
       fit_of sum tid acts u o f =
           ap (λ (x : Stamped Op Effect). op_fits (kind_for spaces item.space) x.op) (sym o.is)
           ∙ ap (λ (it : Item). op_fits (kind_for spaces it.space) o.act.op) (sym (item_eq-true o.act.item item o.on_item)) ∙ f
 
   -- a user sees them as the execution has them
-  updates_seen : (t : Begun) (item : Item) (ds : List Done) → AllFits spaces ds → updates_in (seen_of t item ++ own_of t item ds) ≡ visible item (past_of told t) (entries_of (past_of told) es) ++ updates_of t.tid item ds
+  updates_seen : (t : Begun) (item : Item) (ds : List Done) → AllFits spaces ds
+      → updates_in (seen_of t item ++ own_of t item ds) ≡ visible item (past_of told t) (entries_of (past_of told) es) ++ updates_of t.tid item ds
   updates_seen t item ds fits =
       updates_in-append (seen_of t item) (own_of t item ds)
-      ∙ (λ i. seen_visible spaces decided (past_of told) (past_of told t) item es (λ c k. fits_in c (in_arbitrated c cs k)) i ++ updates-are spaces decided own_sum t.tid t.snapshot item ds fits i)
+      ∙ (λ i. seen_visible spaces decided (past_of told) (past_of told t) item es
+      (λ c k. fits_in snap c (in_arbitrated c cs k)) i ++ updates-are spaces decided t.tid t.snapshot own_sum item ds fits i)
 
   -- VALUED
-  value_here : (t : Begun) → In t told.begun → (before' rest : List Done) (d : Done) → before' ++ rest ≡ ops_of t.tid told.performed → AllFits spaces before' → IsAnswered spaces decided t.tid t.snapshot before' d
+  value_here : (t : Begun) → In t told.begun → (before' rest : List Done) (d : Done) → before' ++ rest ≡ ops_of t.tid told.performed → AllFits spaces before'
+      → IsAnswered spaces decided t.tid t.snapshot before' d
       → d.answer ≡ value_of d.op (visible d.item (past_of told t) (entries_of (past_of told) es) ++ updates_of t.tid d.item before') (after_of t)
   value_here t j before' rest d e fits h =
       h.is
-      ∙ ap (answered d.op) (met_is t d.item (acts_of spaces decided t.tid t.snapshot before'))
-      ∙ answers-as-defined (kind_for spaces d.item.space) (after_of t) (seen_of t d.item ++ own_of t d.item before') (met t d.item ++ own_of t d.item before')
+      ∙ ap (answered d.op) (met_is snap t d.item (acts_of spaces decided t.tid t.snapshot before'))
+      ∙ answers-as-defined (kind_for spaces d.item.space) (after_of t) (seen_of t d.item ++ own_of t d.item before')
+      (met snap t d.item ++ own_of t d.item before')
       (all_fit t d.item before' fits) (history t j h.small d.item before' fits own_vector) (other_order t j d.item before' fits) d.op h.fits
       ∙ ap (λ us. value_of d.op us (after_of t)) (updates_seen t d.item before' fits)
     where
-      own_vector : (c : Committed) → In c cs → c.begun.tid ≡ t.tid → (a : Act) → In a (acts_of spaces decided t.tid t.snapshot before') → has_own_vector c ≡ true
+      own_vector : (c : Committed) → In c cs → c.begun.tid ≡ t.tid → (a : Act) → In a (acts_of spaces decided t.tid t.snapshot before')
+          → has_own_vector c ≡ true
       own_vector c i same a k =
           let any = any_front (λ (x : Done). is_update x.op) before' rest (act-updates spaces decided t.tid t.snapshot before' fits a k) in
           or_right c.strong (some_update c.ops) (ap some_update (snap.names.ops c i ∙ ap (λ tid. ops_of tid told.performed) same ∙ sym e) ∙ any)
@@ -489,9 +317,12 @@ module _ {spaces : List (ℕ × Kind)} {conflicts : List Done → List Done → 
   fits_front [] ys h = tt
   fits_front (x ∷ xs) ys h = (h.0, fits_front xs ys h.1)
 
-  pub values_of : (t : Begun) → In t told.begun → (before' ds : List Done) → before' ++ ds ≡ ops_of t.tid told.performed → AllAnswered spaces decided t.tid t.snapshot before' ds
+  pub values_of : (t : Begun) → In t told.begun → (before' ds : List Done) → before' ++ ds ≡ ops_of t.tid told.performed
+      → AllAnswered spaces decided t.tid t.snapshot before' ds
       → HaveValues (entries_of (past_of told) es) t.tid (past_of told t) before' ds
   values_of t j before' [] e h = tt
   values_of t j before' (d ∷ ds) e h =
-      let fits = fits_front before' (d ∷ ds) (subst (AllFits spaces) (sym e) (answered-fits spaces decided t.tid t.snapshot [] (ops_of t.tid told.performed) (snap.answers t j))) in
+      let fits =
+      fits_front before' (d ∷ ds) (subst (AllFits spaces) (sym e)
+      (answered-fits spaces decided t.tid t.snapshot [] (ops_of t.tid told.performed) (snap.answers t j))) in
       (value_here t j before' (d ∷ ds) d e fits h.0, values_of t j (before' ++ d ∷ []) ds (append_assoc before' (d ∷ []) ds ∙ e) h.1)

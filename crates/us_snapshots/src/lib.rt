@@ -4,7 +4,8 @@
 //! No partition, packet or site number stands in these laws: who shows that a machine's runs tell such histories has them all.
 #![tactic(auto)]
 
-ghost use Rattle.us_snapshots.specs.Laws.{CountsAreDirect, ExecutionsAreClosed, ExecutionsAreDirect, ExecutionsAreOrdered, ExecutionsAreValued, ExecutionsAreWellFormed, HistoriesAscend};
+ghost use Rattle.us_snapshots.specs.Laws.{ExecutionsAreClosed, ExecutionsAreOrdered, ExecutionsAreValued, ExecutionsAreWellFormed};
+ghost use Rattle.us_snapshots.specs.Laws.{CountsAreDirect, ExecutionsAreDirect, HistoriesAscend};
 
 /// The execution of a snapshot history is well formed: each session's committed transactions are numbered 1, 2 and so on, as
 /// their coordinator began them, no two transactions have one name, and pasts count what is there.
@@ -12,8 +13,8 @@ pub fn executions_are_well_formed()
     ensures { ExecutionsAreWellFormed }
 {}
 
-/// It is closed: a past holds what its session committed before, and what is before a transaction that is in it, which
-/// stands earlier.
+/// It is closed: a past holds what its session committed before, what its session goes on from by a link, and what is before a
+/// transaction that is in it, all of which stand earlier.
 pub fn executions_are_closed()
     ensures { ExecutionsAreClosed }
 {}
@@ -30,19 +31,19 @@ pub fn executions_are_ordered()
     ensures { ExecutionsAreOrdered }
 {}
 
-/// The count of a session in a past, which is defined by the closure of steps, is the greatest number of a transaction of the
-/// session that leads to it in one step.
+/// Where no session goes on from another one, the count of a session in a past, which is defined by the closure of steps, is the
+/// greatest number of a transaction of the session that leads to it in one step.
 pub fn counts_are_direct()
     ensures { CountsAreDirect }
 {}
 
-/// The execution of a snapshot history, whose pasts are defined by the closure of steps, is the one whose pasts are counted in
-/// one step.
+/// Where no session goes on from another one, the execution of a snapshot history, whose pasts are defined by the closure of
+/// steps, is the one whose pasts are counted in one step.
 pub fn executions_are_direct()
     ensures { ExecutionsAreDirect }
 {}
 
-/// In each session the vectors of later transactions are at least those of earlier ones, and no transaction with a vector of
+/// Where no session goes on from another one, in each session the vectors of later transactions are at least those of earlier ones, and no transaction with a vector of
 /// its own is in its own snapshot.
 pub fn histories_ascend()
     ensures { HistoriesAscend }
