@@ -1,11 +1,11 @@
 -- Where a text is accepted and no count rises, a call is done, or memory runs out.
-use Rattle.std.proofs.Common.{◌≡◌, ℕ, ◌<◌, ◌≤◌, ◌^◌, ◌⊎◌, inl, inr, Bool, List, length, Option, Some, None, refl, sym, ap, ◌∙◌, subst, arith}
+use Rattle.std.proofs.Common.{◌≡◌, ℕ, ◌<◌, ◌≤◌, ◌^◌, ◌⊎◌, inl, inr, Bool, length, Option, Some, None, refl, sym, ap, ◌∙◌, subst, arith}
 use Rattle.us_edge.specs.Faults.{Rose}
 use Rattle.unistore.specs.declared.form.Form.{Form}
 use Rattle.unistore.specs.declared.form.Form.TheVariants.{Replay}
 use Rattle.unistore.specs.declared.schedule.Script.{Script}
 use Rattle.unistore.specs.declared.schedule.Schedule.{Schedule}
-use Rattle.unistore.specs.declared.schedule.Schedule.TheVariants.{Refused, Read}
+use Rattle.unistore.specs.declared.schedule.Schedule.TheVariants.{Read}
 use Rattle.unistore.specs.declared.status.LimitKind.{LimitKind}
 use Rattle.unistore.specs.declared.status.Reason.{Reason}
 use Rattle.unistore.specs.declared.status.Status.{Status}

@@ -2,10 +2,10 @@ ghost use Rattle.std.specs.Prelude.{◌≡◌, ◌++◌, OnOk, string_bytes, Lis
 ghost use Rattle.std.specs.List.{flat_map, list_any};
 ghost use Rattle.us_report.specs.Text.{past_text, count_text, is_counted};
 
+use crate::Report;
 use crate::words::{
     AnswerText, CountsText, EndText, ItemText, OpText, SessionText, TidText, kind_word,
 };
-use crate::Report;
 use std::alloc::AllocError;
 use us_exec::{Count, Done, Entry, Link, Loose, RefusedRequest, WaitingRequest};
 
