@@ -1,13 +1,14 @@
 -- Connections that are opened and dropped.
-use Rattle.std.proofs.Common.{◌≡◌, ℕ, suc, ◌+◌, ◌-◌, ◌<◌, ◌≤◌, ◌==◌, ◌⊎◌, ◌≢◌, Bool, true, false, cond, Option, Some, None, option_to_list, List, [], ◌∷◌, ◌++◌, length, refl, sym, ap, ◌∙◌, subst, arith, ⊎_elim, length-append, inl, inr}
+use Rattle.std.proofs.Common.{◌≡◌, ℕ, suc, ◌+◌, ◌<◌, ◌≤◌, ◌==◌, ◌≢◌, Bool, true, false, cond, Option, Some, None, option_to_list, List, [], ◌∷◌, ◌++◌, length, refl, sym, ap, subst, arith, ⊎_elim, length-append}
 use Rattle.std.specs.List.{count_by, All}
 use Rattle.std.proofs.lemmas.List.Sums.{sum_by-cons, sum_by-append, sum_by_push}
 use Rattle.std.proofs.lemmas.Bool.Decides.{eqb_tells}
 use Rattle.std.proofs.lemmas.Bool.{eq-eqb}
-use Rattle.us_edge.specs.Links.{Connections, HasPiece, times_opened, times_dropped}
+use Rattle.us_edge.specs.Links.{Connections, HasPiece, times_opened, times_dropped, connections_after, AreDropsOfOpened, IsOpen}
 use Rattle.us_edge.specs.MemoryLinks.{IsInOrder}
 use Rattle.us_edge.specs.declared.links.Dropped.{Dropped}
 use Rattle.us_edge.specs.declared.links.LinkInput.{LinkInput}
+use Rattle.us_edge.specs.declared.links.LinkInput.TheVariants.{Opened}
 
 -- a number as it stands in a list for the first time, and the numbers around it
 record Found (x : ℕ) (ys : List ℕ) : Type 0 where
@@ -20,6 +21,7 @@ find x [] h = absurd (omega (arith, h))
 find x (y ∷ ys) h = ⊎_elim here (later (find x ys)) (eqb_tells y x) where
   here : (y == x ≡ true) × (y ≡ x) → Found x (y ∷ ys)
   here e = record { front = []; back = ys; is = ap (λ (z : ℕ). z ∷ ys) e.1 }
+
   later : (1 ≤ count_by (λ j. j == x) ys → Found x ys) → (y == x ≡ false) × (y ≢ x) → Found x (y ∷ ys)
   later others e =
       let rest : Found x ys = others (omega (arith, h, sum_by-cons (λ j. cond (j == x) 1 0) y ys, ap (λ (b : Bool). cond {A = ℕ} b 1 0) e.0)) in
@@ -36,8 +38,10 @@ counts-length number [] ys h = omega arith
 counts-length number (x ∷ xs) ys h = taken (counts-length number xs) where
   found : Found (number x) ys
   found = find (number x) ys (omega (arith, h (number x), sum_by-cons (λ y. cond (number y == number x) 1 0) x xs, ap (λ (b : Bool). cond {A = ℕ} b 1 0) (eq-eqb (number x) (number x) refl)))
+
   below : (k : ℕ) → count_by (λ y. number y == k) xs ≤ count_by (λ j. j == k) (found.front ++ found.back)
   below k = omega (arith, h k, sum_by-cons (λ y. cond (number y == k) 1 0) x xs, ap (λ (zs : List ℕ). count_by (λ j. j == k) zs) found.is, count-around k (number x) found.front found.back)
+
   taken : ((zs : List ℕ) → ((k : ℕ) → count_by (λ y. number y == k) xs ≤ count_by (λ j. j == k) zs) → length xs ≤ length zs) → length (x ∷ xs) ≤ length ys
   taken others = omega (arith, others (found.front ++ found.back) below, ap length found.is, length-append found.front (number x ∷ found.back), length-append found.front found.back)
 
@@ -46,11 +50,13 @@ more_drops : (opened : List ℕ) (dropped : List Dropped) (d : Dropped) → ((k 
 more_drops opened dropped d h is_open k = ⊎_elim here other (eqb_tells d.conn k) where
   pushed : count_by (λ e. e.conn == k) (dropped ++ d ∷ []) ≡ count_by (λ e. e.conn == k) dropped + cond (d.conn == k) 1 0
   pushed = sum_by_push (λ (e : Dropped). cond (e.conn == k) 1 0) dropped d
+
   here : (d.conn == k ≡ true) × (d.conn ≡ k) → count_by (λ e. e.conn == k) (dropped ++ d ∷ []) ≤ count_by (λ j. j == k) opened
   here e =
       let P : ℕ → Type 0 = λ j. count_by (λ (x : Dropped). x.conn == j) dropped < count_by (λ i. i == j) opened in
       let below : P k = subst P e.1 is_open in
       omega (arith, pushed, below, ap (λ (b : Bool). cond {A = ℕ} b 1 0) e.0)
+
   other : (d.conn == k ≡ false) × (d.conn ≢ k) → count_by (λ e. e.conn == k) (dropped ++ d ∷ []) ≤ count_by (λ j. j == k) opened
   other e = omega (arith, pushed, h k, ap (λ (b : Bool). cond {A = ℕ} b 1 0) e.0)
 
@@ -102,5 +108,12 @@ taken_in_order None coming others known room is h = let P : List LinkInput → T
 taken_in_order (Some next) coming others known room is h =
     let P : List LinkInput → Type 0 = λ inputs. All HasPiece inputs in
     record { pieces = behind_in_pieces next others (subst P is h.pieces); enough = h.enough; drops = h.drops } where
-  behind_in_pieces : (next : LinkInput) (others : List LinkInput) → All HasPiece (next ∷ others) → All HasPiece others
-  behind_in_pieces next others all = λ k d below. all (suc k) d (omega arith)
+      behind_in_pieces : (next : LinkInput) (others : List LinkInput) → All HasPiece (next ∷ others) → All HasPiece others
+      behind_in_pieces next others all = λ k d below. all (suc k) d (omega arith)
+
+-- a connection that was just opened is open
+pub opened_is_open : (before now : Connections) (conn : ℕ) → Some now ≡ connections_after (Opened conn) (Some before) → AreDropsOfOpened (Some before) → IsOpen (Some now) conn
+opened_is_open before now conn is drops =
+    let same : now ≡ record { opened = before.opened ++ conn ∷ []; dropped = before.dropped } = cc in
+    let P : Connections → Type 0 = λ known. times_dropped conn known < times_opened conn known in
+    subst P (sym same) (omega (arith, drops conn, sum_by_push (λ j. cond (j == conn) 1 0) before.opened conn, ap (λ (b : Bool). cond {A = ℕ} b 1 0) (eq-eqb conn conn refl)))

@@ -1,5 +1,5 @@
 -- What links have done, where they tell it.
-use Rattle.std.specs.Prelude.{◌≡◌, ℕ, ◌<◌, ◌≤◌, ◌==◌, ◌⊎◌, Bool, List, [], ◌∷◌, ◌++◌, length, count_by, Option, None, Some, IfSome, if◌then◌else◌}
+use Rattle.std.specs.Prelude.{◌≡◌, ℕ, ◌<◌, ◌≤◌, ◌==◌, ◌⊎◌, List, [], ◌∷◌, ◌++◌, length, count_by, Option, None, Some, IfSome, if◌then◌else◌}
 use Rattle.std.specs.Option.{ForSome}
 use Rattle.us_edge.specs.declared.links.LinkInput.{LinkInput}
 use Rattle.us_edge.specs.declared.links.LinkInput.TheVariants.{Nothing, Opened, ClientBytes, ClientClosed, PeerBytes, PeerReset}

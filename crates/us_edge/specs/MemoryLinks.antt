@@ -1,6 +1,7 @@
 -- Links in memory.
-use Rattle.std.specs.Prelude.{ℕ, ◌≤◌, List, [], ◌∷◌, ◌++◌, All, Option, None, Some, length}
+use Rattle.std.specs.Prelude.{◌≡◌, ℕ, ◌≤◌, ◌⊎◌, IsTrue, List, [], ◌∷◌, ◌++◌, All, Option, None, Some, length}
 use Rattle.us_edge.specs.Links.{Connections, AreDropsOfOpened, HasPiece}
+use Rattle.us_edge.specs.Scripts.{is_to_fail}
 use Rattle.us_edge.specs.declared.links.LinkInput.{LinkInput}
 use Rattle.us_edge.specs.declared.links.LinkInput.TheVariants.{Nothing}
 use Rattle.us_edge.specs.declared.links.Offer.{Offer}
@@ -41,6 +42,10 @@ with_outcome (Some kept) outcome = Some (record { offers = kept.offers; outcomes
 abbrev pub with_send : Option Kept → Offer → Outcome → Option Kept
 with_send None offer outcome = None
 with_send (Some kept) offer outcome = Some (record { offers = kept.offers ++ offer ∷ []; outcomes = kept.outcomes ++ outcome ∷ [] })
+
+-- a send that failed as it was told is kept; one that found no memory leaves nothing that is kept
+abbrev pub KeepsFailed : MemoryLinks → MemoryLinks → Offer → Outcome → Type 0
+KeepsFailed before after offer outcome = (IsTrue (is_to_fail before.fails before.calls) × (after.kept ≡ with_send before.kept offer outcome)) ⊎ (after.kept ≡ None)
 
 -- the next input; after the last there is nothing
 abbrev pub next_of : List LinkInput → LinkInput

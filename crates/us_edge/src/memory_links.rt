@@ -1,7 +1,8 @@
-ghost use Rattle.std.specs.Prelude.{◌≡◌, ◌∷◌, ◌++◌, [], IfOk, OnOk, OnErr, All, Some, None, MatchOption, IfSome, length, is_err, if◌then◌else◌};
-ghost use Rattle.us_edge.specs.Links.{HasPiece, opened_by, offered_to};
-ghost use Rattle.us_edge.specs.MemoryLinks.{next_of, with_outcome, with_send, offers_of, outcomes_of};
-ghost use Rattle.us_edge.specs.Scripts.{counted};
+ghost use Rattle.std.specs.Prelude.{◌≡◌, ◌≤◌, ◌↔◌, ◌∷◌, ◌++◌, [], IfOk, OnOk, OnErr, All, Some, None, MatchOption, IfSome, IsSome, IsTrue, true, false, length, is_err, if◌then◌else◌};
+ghost use Rattle.us_edge.specs.Faults.{Rose};
+ghost use Rattle.us_edge.specs.Links.{HasPiece, Polls, recorded, RecordsOrForgets, opened_by, connections_after, offered_to, IsOpen, AreDropsOfOpened, Drops};
+ghost use Rattle.us_edge.specs.MemoryLinks.{KeepsFailed, next_of, with_outcome, with_send, offers_of, outcomes_of};
+ghost use Rattle.us_edge.specs.Scripts.{counted, is_to_fail};
 
 use crate::calls::Calls;
 use crate::kept::Kept;
@@ -172,7 +173,22 @@ impl Links for MemoryLinks {
 
     ghost faults = { λ a. a.faults };
 
-    fn start(&mut self, plan: &Plan) -> Result<(), StartFault> {
+    fn start(&mut self, plan: &Plan) -> Result<(), StartFault>
+        ensures ok { OnOk result (self.new.planned ≡ Some plan.now) }
+        ensures err { OnErr result (self.new.planned ≡ None) }
+        ensures inputs { Some self.new.coming ≡ Some self.old.coming }
+        ensures ends { outcomes_of self.new.kept ≡ outcomes_of self.old.kept }
+        ensures offers { offers_of self.new.kept ≡ offers_of self.old.kept }
+        ensures kept { Some self.new.connections ≡ Some self.old.connections }
+        ensures drops { AreDropsOfOpened (Some self.new.connections) }
+        ensures cause { result ≡ Err StartFault.Failed → Rose self.old.faults self.new.faults }
+        ensures counts { self.old.faults ≤ self.new.faults }
+
+        // It fails as it is told.
+        ensures failed { (result ≡ Err StartFault.Failed) ↔ IsTrue (is_to_fail self.old.fails self.old.calls) }
+        ensures script { (self.new.fails ≡ self.old.fails) × (self.new.calls ≡ counted self.old.calls) }
+        ensures faults { self.new.faults ≡ (if is_to_fail self.old.fails self.old.calls then counted self.old.faults else self.old.faults) }
+    {
         self.plan = None;
         if self.calls.begin() {
             self.calls.count_fault();
@@ -182,7 +198,30 @@ impl Links for MemoryLinks {
         Ok(())
     }
 
-    fn poll(&mut self) -> Result<LinkInput, PollFault> {
+    /// It makes the room for its outcome, and an input that opens a connection the room for its drop.
+    fn poll(&mut self) -> Result<LinkInput, PollFault>
+        requires { IsSome self.old.planned }
+        ensures plan { self.new.planned ≡ self.old.planned }
+        ensures offers { offers_of self.new.kept ≡ offers_of self.old.kept }
+        ensures piece { IfOk result HasPiece }
+        ensures input { IfOk result (λ input. Polls (Some self.old.coming) (Some self.new.coming) input) }
+        ensures ends { IfOk result (λ input. outcomes_of self.new.kept ≡ recorded (outcomes_of self.old.kept) (Outcome.Polled input)) }
+        ensures opened { IfOk result (λ input. Some self.new.connections ≡ connections_after input (Some self.old.connections)) }
+        ensures drops { AreDropsOfOpened (Some self.new.connections) }
+        ensures err { OnErr result ((Some self.new.coming ≡ Some self.old.coming) × (Some self.new.connections ≡ Some self.old.connections)) }
+        ensures failed { result ≡ Err PollFault.Failed → outcomes_of self.new.kept ≡ recorded (outcomes_of self.old.kept) Outcome.PollFailed }
+        ensures memory { result ≡ Err PollFault.Memory → outcomes_of self.new.kept ≡ outcomes_of self.old.kept }
+        ensures cause { result ≡ Err PollFault.Failed → Rose self.old.faults self.new.faults }
+        ensures counts { self.old.faults ≤ self.new.faults }
+
+        // It fails as it is told.
+        ensures failed_as_told { result ≡ Err PollFault.Failed → IsTrue (is_to_fail self.old.fails self.old.calls) }
+        ensures fails_as_told { IsTrue (is_to_fail self.old.fails self.old.calls) → is_err result ≡ true }
+        ensures script { (self.new.fails ≡ self.old.fails) × (self.new.calls ≡ counted self.old.calls) }
+        ensures fault { result ≡ Err PollFault.Failed → self.new.faults ≡ counted self.old.faults }
+        ensures no_fault { OnOk result (self.new.faults ≡ self.old.faults) }
+        ensures memory_is_no_fault { result ≡ Err PollFault.Memory → self.new.faults ≡ self.old.faults }
+    {
         if self.calls.begin() {
             keep(&mut self.kept, Outcome::PollFailed)?;
             self.calls.count_fault();
@@ -192,7 +231,26 @@ impl Links for MemoryLinks {
         Ok(self.inputs.pop_front().unwrap_or(LinkInput::Nothing))
     }
 
-    fn send_client(&mut self, conn: u64, piece: &[u8]) -> Result<(), Failed> {
+    /// It is Failed too where it finds no memory, and then it tells no longer what was offered and how calls ended.
+    fn send_client(&mut self, conn: u64, piece: &[u8]) -> Result<(), Failed>
+        requires started { IsSome self.old.planned }
+        requires open { IsOpen (Some self.old.connections) conn }
+        ensures plan { self.new.planned ≡ self.old.planned }
+        ensures inputs { Some self.new.coming ≡ Some self.old.coming }
+        ensures kept { Some self.new.connections ≡ Some self.old.connections }
+        ensures offers { OnOk result (offers_of self.new.kept ≡ recorded (offers_of self.old.kept) (Offer.Client conn piece.now)) }
+        ensures ends { OnOk result (outcomes_of self.new.kept ≡ recorded (outcomes_of self.old.kept) (Outcome.ClientSent conn false)) }
+        ensures failed_offers { OnErr result (RecordsOrForgets (offers_of self.old.kept) (offers_of self.new.kept) (Offer.Client conn piece.now)) }
+        ensures failed_ends { OnErr result (RecordsOrForgets (outcomes_of self.old.kept) (outcomes_of self.new.kept) (Outcome.ClientSent conn true)) }
+        ensures cause { OnErr result (Rose self.old.faults self.new.faults) }
+        ensures counts { self.old.faults ≤ self.new.faults }
+
+        // It fails as it is told, and then it keeps the bytes.
+        ensures fails_as_told { IsTrue (is_to_fail self.old.fails self.old.calls) → is_err result ≡ true }
+        ensures lost { OnErr result (KeepsFailed self.old self.new (Offer.Client conn piece.now) (Outcome.ClientSent conn true)) }
+        ensures script { (self.new.fails ≡ self.old.fails) × (self.new.calls ≡ counted self.old.calls) }
+        ensures faults { self.new.faults ≡ (if is_err result then counted self.old.faults else self.old.faults) }
+    {
         let failed = self.calls.begin();
         match client_kept(self.kept.take(), conn, piece, failed) {
             Ok(kept) => {
@@ -203,7 +261,25 @@ impl Links for MemoryLinks {
         }
     }
 
-    fn send_peer(&mut self, site: u8, piece: &[u8]) -> Result<(), Failed> {
+    /// It is Failed too where it finds no memory, and then it tells no longer what was offered and how calls ended.
+    fn send_peer(&mut self, site: u8, piece: &[u8]) -> Result<(), Failed>
+        requires { IsSome self.old.planned }
+        ensures plan { self.new.planned ≡ self.old.planned }
+        ensures inputs { Some self.new.coming ≡ Some self.old.coming }
+        ensures kept { Some self.new.connections ≡ Some self.old.connections }
+        ensures offers { OnOk result (offers_of self.new.kept ≡ recorded (offers_of self.old.kept) (Offer.Peer site piece.now)) }
+        ensures ends { OnOk result (outcomes_of self.new.kept ≡ recorded (outcomes_of self.old.kept) (Outcome.PeerSent site false)) }
+        ensures failed_offers { OnErr result (RecordsOrForgets (offers_of self.old.kept) (offers_of self.new.kept) (Offer.Peer site piece.now)) }
+        ensures failed_ends { OnErr result (RecordsOrForgets (outcomes_of self.old.kept) (outcomes_of self.new.kept) (Outcome.PeerSent site true)) }
+        ensures cause { OnErr result (Rose self.old.faults self.new.faults) }
+        ensures counts { self.old.faults ≤ self.new.faults }
+
+        // It fails as it is told, and then it keeps the bytes.
+        ensures fails_as_told { IsTrue (is_to_fail self.old.fails self.old.calls) → is_err result ≡ true }
+        ensures lost { OnErr result (KeepsFailed self.old self.new (Offer.Peer site piece.now) (Outcome.PeerSent site true)) }
+        ensures script { (self.new.fails ≡ self.old.fails) × (self.new.calls ≡ counted self.old.calls) }
+        ensures faults { self.new.faults ≡ (if is_err result then counted self.old.faults else self.old.faults) }
+    {
         let failed = self.calls.begin();
         match peer_kept(self.kept.take(), site, piece, failed) {
             Ok(kept) => {
@@ -214,7 +290,20 @@ impl Links for MemoryLinks {
         }
     }
 
-    fn drop_client(&mut self, conn: u64) {
+    fn drop_client(&mut self, conn: u64)
+        requires started { IsSome self.old.planned }
+        requires open { IsOpen (Some self.old.connections) conn }
+        ensures plan { self.new.planned ≡ self.old.planned }
+        ensures inputs { Some self.new.coming ≡ Some self.old.coming }
+        ensures ends { outcomes_of self.new.kept ≡ outcomes_of self.old.kept }
+        ensures offers { offers_of self.new.kept ≡ offers_of self.old.kept }
+        ensures dropped { Drops (Some self.old.connections) (Some self.new.connections) (offers_of self.old.kept) conn }
+        ensures drops { AreDropsOfOpened (Some self.new.connections) }
+        ensures counts { self.old.faults ≤ self.new.faults }
+
+        // It is no call that can fail.
+        ensures script { (self.new.fails ≡ self.old.fails) × (self.new.calls ≡ self.old.calls) × (self.new.faults ≡ self.old.faults) }
+    {
         let before = self.offered_before(conn);
         let _ = self.dropped.push(Dropped { conn, before });
     }

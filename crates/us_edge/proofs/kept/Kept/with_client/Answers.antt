@@ -1,4 +1,4 @@
-use Rattle.std.proofs.Common.{◌∙◌, sym, ap, ◌≡◌, ◌+◌, length, List, ℕ, arith}
+use Rattle.std.proofs.Common.{◌∙◌, sym, ap, ◌≡◌, ◌+◌, length, List, arith}
 use Rattle.us_edge.specs.declared.links.Offer.{Offer}
 use Rattle.us_edge.specs.Links.{offered_to}
 use Rattle.us_edge.specs.MemoryLinks.{Kept}

@@ -1,6 +1,6 @@
 use Rattle.std.proofs.Common.{◌≡◌, ◌++◌, ◌∷◌, [], ◌∙◌, List, Option, Some, ap, sym, subst, is_ok, length, ◌<◌, vec_capacity, arith}
 use Rattle.us_edge.specs.Links.{Connections, IsOpen}
-use Rattle.us_edge.specs.MemoryLinks.{MemoryLinks, IsInOrder}
+use Rattle.us_edge.specs.MemoryLinks.{MemoryLinks}
 use Rattle.us_edge.specs.declared.links.Dropped.{Dropped}
 use Rattle.us_edge.proofs.Connections.{dropped_in_order, pushed_ok, room_for_drop}
 use Rattle.us_edge.proofs.memory_links.MemoryLinksLinks.drop_client.Goals as goal
