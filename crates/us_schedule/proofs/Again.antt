@@ -88,16 +88,16 @@ clock_below n h = let p : n ≤ 2 ^ 59 = leb-true _ _ h in omega arith
 rounds_below : (n : ℕ) → is_rounds n ≡ true → n < 2 ^ 64
 rounds_below n h = let p : n ≤ 100000 = leb-true _ _ h in omega arith
 
-one_again : (shape : Shape) (make : ℕ → Line) (x : ℕ) → x < 2 ^ 64 → in_range shape (make x) ≡ true → one shape make (decimal x) ≡ Ok (make x)
+one_again : (shape : Shape) (make : ℕ → Line) (x : ℕ) → x < 2 ^ 64 → in_range shape (make x) ≡ true → one (in_range shape) make (decimal x) ≡ Ok (make x)
 one_again shape make x lx ranges = rw (number_again x lx, ranges) refl
 
-two_again : (shape : Shape) (make : ℕ → ℕ → Line) (x y : ℕ) → x < 2 ^ 64 → y < 2 ^ 64 → in_range shape (make x y) ≡ true → two shape make (decimal x) (decimal y) ≡ Ok (make x y)
+two_again : (shape : Shape) (make : ℕ → ℕ → Line) (x y : ℕ) → x < 2 ^ 64 → y < 2 ^ 64 → in_range shape (make x y) ≡ true → two (in_range shape) make (decimal x) (decimal y) ≡ Ok (make x y)
 two_again shape make x y lx ly ranges = rw (number_again x lx, number_again y ly, ranges) refl
 
-three_again : (shape : Shape) (make : ℕ → ℕ → ℕ → Line) (x y z : ℕ) → x < 2 ^ 64 → y < 2 ^ 64 → z < 2 ^ 64 → in_range shape (make x y z) ≡ true → three shape make (decimal x) (decimal y) (decimal z) ≡ Ok (make x y z)
+three_again : (shape : Shape) (make : ℕ → ℕ → ℕ → Line) (x y z : ℕ) → x < 2 ^ 64 → y < 2 ^ 64 → z < 2 ^ 64 → in_range shape (make x y z) ≡ true → three (in_range shape) make (decimal x) (decimal y) (decimal z) ≡ Ok (make x y z)
 three_again shape make x y z lx ly lz ranges = rw (number_again x lx, number_again y ly, number_again z lz, ranges) refl
 
-bytes_again : (shape : Shape) (x y z : ℕ) (bytes : List ℕ) → x < 2 ^ 64 → y < 2 ^ 64 → z < 2 ^ 64 → IsBytes bytes → in_range shape (Bytes x y z bytes) ≡ true → three_and_hex shape Bytes (decimal x) (decimal y) (decimal z) (encode_lower bytes) ≡ Ok (Bytes x y z bytes)
+bytes_again : (shape : Shape) (x y z : ℕ) (bytes : List ℕ) → x < 2 ^ 64 → y < 2 ^ 64 → z < 2 ^ 64 → IsBytes bytes → in_range shape (Bytes x y z bytes) ≡ true → three_and_hex (in_range shape) Bytes (decimal x) (decimal y) (decimal z) (encode_lower bytes) ≡ Ok (Bytes x y z bytes)
 bytes_again shape x y z bytes lx ly lz fits ranges = rw (number_again x lx, number_again y ly, number_again z lz, hex_again bytes fits, ranges) refl
 
 -- the words of a line are read as the line, and hold no space

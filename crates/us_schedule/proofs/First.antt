@@ -37,7 +37,7 @@ only_range : (shape : Shape) (line : Line) (b : Bool) → Only fault.OutOfRange 
 only_range shape line true = tt
 only_range shape line false = refl
 
-only_within : (shape : Shape) (line : Line) → Only fault.OutOfRange (within shape line)
+only_within : (shape : Shape) (line : Line) → Only fault.OutOfRange (within (in_range shape) line)
 only_within shape line = only_range shape line (in_range shape line)
 
 -- of the numbers, the hex and the ranges
@@ -51,25 +51,25 @@ ends : {A : Type 0} (r : Result A LineFault) (d e : LineFault) → Only d r → 
 ends (Ok x) d e h q = absurd (cc)
 ends (Err x) d e h q = let k : x ≡ e = cc in sym k ∙ h
 
-one_step : (shape : Shape) (make : ℕ → Line) (a : Result ℕ LineFault) (e : LineFault) → Only fault.BadNumber a → (a >>= λ x. within shape (make x)) ≡ Err e → e ≡ pick (is_ok a && true) true
-one_step shape make (Ok x) e ha q = ends (within shape (make x)) fault.OutOfRange e (only_within shape (make x)) q
+one_step : (shape : Shape) (make : ℕ → Line) (a : Result ℕ LineFault) (e : LineFault) → Only fault.BadNumber a → (a >>= λ x. within (in_range shape) (make x)) ≡ Err e → e ≡ pick (is_ok a && true) true
+one_step shape make (Ok x) e ha q = ends (within (in_range shape) (make x)) fault.OutOfRange e (only_within shape (make x)) q
 one_step shape make (Err d) e ha q = ends (failed {A = Line} d) fault.BadNumber e ha q
 
-two_step : (shape : Shape) (make : ℕ → ℕ → Line) (a b : Result ℕ LineFault) (e : LineFault) → Only fault.BadNumber a → Only fault.BadNumber b → (a >>= λ x. b >>= λ y. within shape (make x y)) ≡ Err e → e ≡ pick (is_ok a && (is_ok b && true)) true
+two_step : (shape : Shape) (make : ℕ → ℕ → Line) (a b : Result ℕ LineFault) (e : LineFault) → Only fault.BadNumber a → Only fault.BadNumber b → (a >>= λ x. b >>= λ y. within (in_range shape) (make x y)) ≡ Err e → e ≡ pick (is_ok a && (is_ok b && true)) true
 two_step shape make (Ok x) b e ha hb q = one_step shape (λ y. make x y) b e hb q
 two_step shape make (Err d) b e ha hb q = ends (failed {A = Line} d) fault.BadNumber e ha q
 
 three_step : (shape : Shape) (make : ℕ → ℕ → ℕ → Line) (a b c : Result ℕ LineFault) (e : LineFault) → Only fault.BadNumber a → Only fault.BadNumber b → Only fault.BadNumber c
-    → (a >>= λ x. b >>= λ y. c >>= λ z. within shape (make x y z)) ≡ Err e → e ≡ pick (is_ok a && (is_ok b && (is_ok c && true))) true
+    → (a >>= λ x. b >>= λ y. c >>= λ z. within (in_range shape) (make x y z)) ≡ Err e → e ≡ pick (is_ok a && (is_ok b && (is_ok c && true))) true
 three_step shape make (Ok x) b c e ha hb hc q = two_step shape (λ y z. make x y z) b c e hb hc q
 three_step shape make (Err d) b c e ha hb hc q = ends (failed {A = Line} d) fault.BadNumber e ha q
 
-hex_step : (shape : Shape) (make : List ℕ → Line) (d : Result (List ℕ) LineFault) (e : LineFault) → Only fault.BadHex d → (d >>= λ bytes. within shape (make bytes)) ≡ Err e → e ≡ pick true (is_ok d && true)
-hex_step shape make (Ok bytes) e hd q = ends (within shape (make bytes)) fault.OutOfRange e (only_within shape (make bytes)) q
+hex_step : (shape : Shape) (make : List ℕ → Line) (d : Result (List ℕ) LineFault) (e : LineFault) → Only fault.BadHex d → (d >>= λ bytes. within (in_range shape) (make bytes)) ≡ Err e → e ≡ pick true (is_ok d && true)
+hex_step shape make (Ok bytes) e hd q = ends (within (in_range shape) (make bytes)) fault.OutOfRange e (only_within shape (make bytes)) q
 hex_step shape make (Err f) e hd q = ends (failed {A = Line} f) fault.BadHex e hd q
 
 bytes_step : (shape : Shape) (a b c : Result ℕ LineFault) (d : Result (List ℕ) LineFault) (e : LineFault) → Only fault.BadNumber a → Only fault.BadNumber b → Only fault.BadNumber c → Only fault.BadHex d
-    → (a >>= λ x. b >>= λ y. c >>= λ z. d >>= λ bytes. within shape (Bytes x y z bytes)) ≡ Err e → e ≡ pick (is_ok a && (is_ok b && (is_ok c && true))) (is_ok d && true)
+    → (a >>= λ x. b >>= λ y. c >>= λ z. d >>= λ bytes. within (in_range shape) (Bytes x y z bytes)) ≡ Err e → e ≡ pick (is_ok a && (is_ok b && (is_ok c && true))) (is_ok d && true)
 bytes_step shape (Ok x) (Ok y) (Ok z) d e ha hb hc hd q = hex_step shape (λ bytes. Bytes x y z bytes) d e hd q
 bytes_step shape (Ok x) (Ok y) (Err f) d e ha hb hc hd q = ends (failed {A = Line} f) fault.BadNumber e hc q
 bytes_step shape (Ok x) (Err f) c d e ha hb hc hd q = ends (failed {A = Line} f) fault.BadNumber e hb q
@@ -77,17 +77,17 @@ bytes_step shape (Err f) b c d e ha hb hc hd q = ends (failed {A = Line} f) faul
 
 -- ---- by names
 
-one_first : (shape : Shape) (make : ℕ → Line) (name lit a : List ℕ) (e : LineFault) → bytes_eq name lit ≡ true → is_form (lit ∷ a ∷ []) ≡ true → one shape make a ≡ Err e → e ≡ first_fault (name ∷ a ∷ [])
+one_first : (shape : Shape) (make : ℕ → Line) (name lit a : List ℕ) (e : LineFault) → bytes_eq name lit ≡ true → is_form (lit ∷ a ∷ []) ≡ true → one (in_range shape) make a ≡ Err e → e ≡ first_fault (name ∷ a ∷ [])
 one_first shape make name lit a e same form q =
     let P : List ℕ → Type 0 = λ n. e ≡ first_fault (n ∷ a ∷ []) in
     subst P (sym (named name lit same)) (rw form (one_step shape make (number a) e (only_number a) q))
 
-two_first : (shape : Shape) (make : ℕ → ℕ → Line) (name lit a b : List ℕ) (e : LineFault) → bytes_eq name lit ≡ true → is_form (lit ∷ a ∷ b ∷ []) ≡ true → two shape make a b ≡ Err e → e ≡ first_fault (name ∷ a ∷ b ∷ [])
+two_first : (shape : Shape) (make : ℕ → ℕ → Line) (name lit a b : List ℕ) (e : LineFault) → bytes_eq name lit ≡ true → is_form (lit ∷ a ∷ b ∷ []) ≡ true → two (in_range shape) make a b ≡ Err e → e ≡ first_fault (name ∷ a ∷ b ∷ [])
 two_first shape make name lit a b e same form q =
     let P : List ℕ → Type 0 = λ n. e ≡ first_fault (n ∷ a ∷ b ∷ []) in
     subst P (sym (named name lit same)) (rw form (two_step shape make (number a) (number b) e (only_number a) (only_number b) q))
 
-three_first : (shape : Shape) (make : ℕ → ℕ → ℕ → Line) (name lit a b c : List ℕ) (e : LineFault) → bytes_eq name lit ≡ true → is_form (lit ∷ a ∷ b ∷ c ∷ []) ≡ true → three shape make a b c ≡ Err e → e ≡ first_fault (name ∷ a ∷ b ∷ c ∷ [])
+three_first : (shape : Shape) (make : ℕ → ℕ → ℕ → Line) (name lit a b c : List ℕ) (e : LineFault) → bytes_eq name lit ≡ true → is_form (lit ∷ a ∷ b ∷ c ∷ []) ≡ true → three (in_range shape) make a b c ≡ Err e → e ≡ first_fault (name ∷ a ∷ b ∷ c ∷ [])
 three_first shape make name lit a b c e same form q =
     let P : List ℕ → Type 0 = λ n. e ≡ first_fault (n ∷ a ∷ b ∷ c ∷ []) in
     subst P (sym (named name lit same)) (rw form (three_step shape make (number a) (number b) (number c) e (only_number a) (only_number b) (only_number c) q))
@@ -97,11 +97,11 @@ unknown words e form q = ends (failed {A = Line} fault.BadWord) fault.BadWord e 
 
 by_one : (shape : Shape) (name a : List ℕ) (e : LineFault) → said_by_one shape name a ≡ Err e → e ≡ first_fault (name ∷ a ∷ [])
 by_one shape name a e q =
-    elim (chosen (bytes_eq name (codes "deliver")) (one shape Deliver a) _ (Err e) q) [
+    elim (chosen (bytes_eq name (codes "deliver")) (one (in_range shape) Deliver a) _ (Err e) q) [
       | inl h ↦ one_first shape Deliver name (codes "deliver") a e h.0 refl h.1
-      | inr g ↦ elim (chosen (bytes_eq name (codes "lead")) (one shape Lead a) _ (Err e) g.1) [
+      | inr g ↦ elim (chosen (bytes_eq name (codes "lead")) (one (in_range shape) Lead a) _ (Err e) g.1) [
         | inl h ↦ one_first shape Lead name (codes "lead") a e h.0 refl h.1
-        | inr h ↦ elim (chosen (bytes_eq name (codes "crash")) (one shape Crash a) _ (Err e) h.1) [
+        | inr h ↦ elim (chosen (bytes_eq name (codes "crash")) (one (in_range shape) Crash a) _ (Err e) h.1) [
           | inl k ↦ one_first shape Crash name (codes "crash") a e k.0 refl k.1
           | inr k ↦ unknown (name ∷ a ∷ []) e (rw (g.0, h.0, k.0) refl) k.1
         ]
@@ -110,13 +110,13 @@ by_one shape name a e q =
 
 by_two : (shape : Shape) (name a b : List ℕ) (e : LineFault) → said_by_two shape name a b ≡ Err e → e ≡ first_fault (name ∷ a ∷ b ∷ [])
 by_two shape name a b e q =
-    elim (chosen (bytes_eq name (codes "open")) (two shape Open a b) _ (Err e) q) [
+    elim (chosen (bytes_eq name (codes "open")) (two (in_range shape) Open a b) _ (Err e) q) [
       | inl h ↦ two_first shape Open name (codes "open") a b e h.0 refl h.1
-      | inr f ↦ elim (chosen (bytes_eq name (codes "flush")) (two shape Flush a b) _ (Err e) f.1) [
+      | inr f ↦ elim (chosen (bytes_eq name (codes "flush")) (two (in_range shape) Flush a b) _ (Err e) f.1) [
         | inl h ↦ two_first shape Flush name (codes "flush") a b e h.0 refl h.1
-        | inr g ↦ elim (chosen (bytes_eq name (codes "forward")) (two shape Forward a b) _ (Err e) g.1) [
+        | inr g ↦ elim (chosen (bytes_eq name (codes "forward")) (two (in_range shape) Forward a b) _ (Err e) g.1) [
           | inl h ↦ two_first shape Forward name (codes "forward") a b e h.0 refl h.1
-          | inr h ↦ elim (chosen (bytes_eq name (codes "settle")) (two shape Settle a b) _ (Err e) h.1) [
+          | inr h ↦ elim (chosen (bytes_eq name (codes "settle")) (two (in_range shape) Settle a b) _ (Err e) h.1) [
             | inl k ↦ two_first shape Settle name (codes "settle") a b e k.0 refl k.1
             | inr k ↦ unknown (name ∷ a ∷ b ∷ []) e (rw (f.0, g.0, h.0, k.0) refl) k.1
           ]
@@ -126,9 +126,9 @@ by_two shape name a b e q =
 
 by_three : (shape : Shape) (name a b c : List ℕ) (e : LineFault) → said_by_three shape name a b c ≡ Err e → e ≡ first_fault (name ∷ a ∷ b ∷ c ∷ [])
 by_three shape name a b c e q =
-    elim (chosen (bytes_eq name (codes "close")) (three shape Close a b c) _ (Err e) q) [
+    elim (chosen (bytes_eq name (codes "close")) (three (in_range shape) Close a b c) _ (Err e) q) [
       | inl h ↦ three_first shape Close name (codes "close") a b c e h.0 refl h.1
-      | inr h ↦ elim (chosen (bytes_eq name (codes "tick")) (three shape Tick a b c) _ (Err e) h.1) [
+      | inr h ↦ elim (chosen (bytes_eq name (codes "tick")) (three (in_range shape) Tick a b c) _ (Err e) h.1) [
         | inl k ↦ three_first shape Tick name (codes "tick") a b c e k.0 refl k.1
         | inr k ↦ unknown (name ∷ a ∷ b ∷ c ∷ []) e (rw (h.0, k.0) refl) k.1
       ]
@@ -137,7 +137,7 @@ by_three shape name a b c e q =
 by_four : (shape : Shape) (name a b c d : List ℕ) (e : LineFault) → said_by_four shape name a b c d ≡ Err e → e ≡ first_fault (name ∷ a ∷ b ∷ c ∷ d ∷ [])
 by_four shape name a b c d e q =
     let P : List ℕ → Type 0 = λ n. e ≡ first_fault (n ∷ a ∷ b ∷ c ∷ d ∷ []) in
-    elim (chosen (bytes_eq name (codes "bytes")) (three_and_hex shape Bytes a b c d) _ (Err e) q) [
+    elim (chosen (bytes_eq name (codes "bytes")) (three_and_hex (in_range shape) Bytes a b c d) _ (Err e) q) [
       | inl h ↦ subst P (sym (named name (codes "bytes") h.0)) (bytes_step shape (number a) (number b) (number c) (hex d) e (only_number a) (only_number b) (only_number c) (only_hex_of (decode_of d)) h.1)
       | inr h ↦ unknown (name ∷ a ∷ b ∷ c ∷ d ∷ []) e (rw h.0 refl) h.1
     ]

@@ -47,7 +47,7 @@ pub chosen : {A : Type 0} (b : Bool) (x y z : Result A LineFault) → cond b x y
 chosen true x y z e = inl (refl, e)
 chosen false x y z e = inr (refl, e)
 
-within_ok : (shape : Shape) (made line : Line) → within shape made ≡ Ok line → (in_range shape made ≡ true) × (made ≡ line)
+within_ok : (shape : Shape) (made line : Line) → within (in_range shape) made ≡ Ok line → (in_range shape made ≡ true) × (made ≡ line)
 within_ok shape made line e =
     elim (chosen (in_range shape made) (Ok made) (Err fault.OutOfRange) (Ok line) e) [
       | inl h ↦ (h.0, cc)
@@ -75,7 +75,7 @@ record IsPlain (name : List ℕ) (numbers : List ℕ) (line : Line) : Type 0 whe
   none : bytes_of line ≡ []
 
 read_plain : (shape : Shape) (name : List ℕ) (words : List (List ℕ)) (numbers : List ℕ) (made line : Line)
-    → map lower_digit name ≡ name → lower_words words ≡ map decimal numbers → IsPlain name numbers made → within shape made ≡ Ok line → IsRead shape (name ∷ words) line
+    → map lower_digit name ≡ name → lower_words words ≡ map decimal numbers → IsPlain name numbers made → within (in_range shape) made ≡ Ok line → IsRead shape (name ∷ words) line
 read_plain shape name words numbers made line low ws plain e =
     let w = within_ok shape made line e in
     let spelled : lower_words (name ∷ words) ≡ words_of made = rw (low, ws) (sym plain.words) in
@@ -83,25 +83,25 @@ read_plain shape name words numbers made line low ws plain e =
     let P : Line → Type 0 = λ l. IsRead shape (name ∷ words) l in
     subst P w.1 (record { spelled = spelled; allowed = allowed })
 
-one_ok : (shape : Shape) (make : ℕ → Line) (name a : List ℕ) (line : Line) → map lower_digit name ≡ name → ((x : ℕ) → IsPlain name (x ∷ []) (make x)) → one shape make a ≡ Ok line → IsRead shape (name ∷ a ∷ []) line
+one_ok : (shape : Shape) (make : ℕ → Line) (name a : List ℕ) (line : Line) → map lower_digit name ≡ name → ((x : ℕ) → IsPlain name (x ∷ []) (make x)) → one (in_range shape) make a ≡ Ok line → IsRead shape (name ∷ a ∷ []) line
 one_ok shape make name a line low plain e =
-    let x = bind_ok (number a) (λ x. within shape (make x)) line e in
+    let x = bind_ok (number a) (λ x. within (in_range shape) (make x)) line e in
     let wx = lower_number a x.0 x.1 in
     read_plain shape name (a ∷ []) (x.0 ∷ []) (make x.0) line low (rw wx refl) (plain x.0) x.2
 
-two_ok : (shape : Shape) (make : ℕ → ℕ → Line) (name a b : List ℕ) (line : Line) → map lower_digit name ≡ name → ((x y : ℕ) → IsPlain name (x ∷ y ∷ []) (make x y)) → two shape make a b ≡ Ok line → IsRead shape (name ∷ a ∷ b ∷ []) line
+two_ok : (shape : Shape) (make : ℕ → ℕ → Line) (name a b : List ℕ) (line : Line) → map lower_digit name ≡ name → ((x y : ℕ) → IsPlain name (x ∷ y ∷ []) (make x y)) → two (in_range shape) make a b ≡ Ok line → IsRead shape (name ∷ a ∷ b ∷ []) line
 two_ok shape make name a b line low plain e =
-    let x = bind_ok (number a) (λ x. number b >>= λ y. within shape (make x y)) line e in
-    let y = bind_ok (number b) (λ y. within shape (make x.0 y)) line x.2 in
+    let x = bind_ok (number a) (λ x. number b >>= λ y. within (in_range shape) (make x y)) line e in
+    let y = bind_ok (number b) (λ y. within (in_range shape) (make x.0 y)) line x.2 in
     let wx = lower_number a x.0 x.1 in
     let wy = lower_number b y.0 y.1 in
     read_plain shape name (a ∷ b ∷ []) (x.0 ∷ y.0 ∷ []) (make x.0 y.0) line low (rw (wx, wy) refl) (plain x.0 y.0) y.2
 
-three_ok : (shape : Shape) (make : ℕ → ℕ → ℕ → Line) (name a b c : List ℕ) (line : Line) → map lower_digit name ≡ name → ((x y z : ℕ) → IsPlain name (x ∷ y ∷ z ∷ []) (make x y z)) → three shape make a b c ≡ Ok line → IsRead shape (name ∷ a ∷ b ∷ c ∷ []) line
+three_ok : (shape : Shape) (make : ℕ → ℕ → ℕ → Line) (name a b c : List ℕ) (line : Line) → map lower_digit name ≡ name → ((x y z : ℕ) → IsPlain name (x ∷ y ∷ z ∷ []) (make x y z)) → three (in_range shape) make a b c ≡ Ok line → IsRead shape (name ∷ a ∷ b ∷ c ∷ []) line
 three_ok shape make name a b c line low plain e =
-    let x = bind_ok (number a) (λ x. number b >>= λ y. number c >>= λ z. within shape (make x y z)) line e in
-    let y = bind_ok (number b) (λ y. number c >>= λ z. within shape (make x.0 y z)) line x.2 in
-    let z = bind_ok (number c) (λ z. within shape (make x.0 y.0 z)) line y.2 in
+    let x = bind_ok (number a) (λ x. number b >>= λ y. number c >>= λ z. within (in_range shape) (make x y z)) line e in
+    let y = bind_ok (number b) (λ y. number c >>= λ z. within (in_range shape) (make x.0 y z)) line x.2 in
+    let z = bind_ok (number c) (λ z. within (in_range shape) (make x.0 y.0 z)) line y.2 in
     let wx = lower_number a x.0 x.1 in
     let wy = lower_number b y.0 y.1 in
     let wz = lower_number c z.0 z.1 in
@@ -115,12 +115,12 @@ read_bytes shape a b c d x y z bytes line wx wy wz h w =
     let P : Line → Type 0 = λ l. IsRead shape (codes "bytes" ∷ a ∷ b ∷ c ∷ d ∷ []) l in
     subst P w.1 (record { spelled = spelled; allowed = record { ranges = w.0; bytes = h.fits } })
 
-bytes_ok : (shape : Shape) (a b c d : List ℕ) (line : Line) → three_and_hex shape Bytes a b c d ≡ Ok line → IsRead shape (codes "bytes" ∷ a ∷ b ∷ c ∷ d ∷ []) line
+bytes_ok : (shape : Shape) (a b c d : List ℕ) (line : Line) → three_and_hex (in_range shape) Bytes a b c d ≡ Ok line → IsRead shape (codes "bytes" ∷ a ∷ b ∷ c ∷ d ∷ []) line
 bytes_ok shape a b c d line e =
-    let x = bind_ok (number a) (λ x. number b >>= λ y. number c >>= λ z. hex d >>= λ bytes. within shape (Bytes x y z bytes)) line e in
-    let y = bind_ok (number b) (λ y. number c >>= λ z. hex d >>= λ bytes. within shape (Bytes x.0 y z bytes)) line x.2 in
-    let z = bind_ok (number c) (λ z. hex d >>= λ bytes. within shape (Bytes x.0 y.0 z bytes)) line y.2 in
-    let bytes = bind_ok (hex d) (λ bytes. within shape (Bytes x.0 y.0 z.0 bytes)) line z.2 in
+    let x = bind_ok (number a) (λ x. number b >>= λ y. number c >>= λ z. hex d >>= λ bytes. within (in_range shape) (Bytes x y z bytes)) line e in
+    let y = bind_ok (number b) (λ y. number c >>= λ z. hex d >>= λ bytes. within (in_range shape) (Bytes x.0 y z bytes)) line x.2 in
+    let z = bind_ok (number c) (λ z. hex d >>= λ bytes. within (in_range shape) (Bytes x.0 y.0 z bytes)) line y.2 in
+    let bytes = bind_ok (hex d) (λ bytes. within (in_range shape) (Bytes x.0 y.0 z.0 bytes)) line z.2 in
     let w = within_ok shape (Bytes x.0 y.0 z.0 bytes.0) line bytes.2 in
     read_bytes shape a b c d x.0 y.0 z.0 bytes.0 line (lower_number a x.0 x.1) (lower_number b y.0 y.1) (lower_number c z.0 z.1) (hex_ok d bytes.0 bytes.1) w
 
@@ -139,11 +139,11 @@ bad_word line A e = absurd cc
 by_one : (shape : Shape) (name a : List ℕ) (line : Line) → said_by_one shape name a ≡ Ok line → IsRead shape (name ∷ a ∷ []) line
 by_one shape name a line e =
     let P : List ℕ → Type 0 = λ n. IsRead shape (n ∷ a ∷ []) line in
-    elim (chosen (bytes_eq name (codes "deliver")) (one shape Deliver a) _ (Ok line) e) [
+    elim (chosen (bytes_eq name (codes "deliver")) (one (in_range shape) Deliver a) _ (Ok line) e) [
       | inl h ↦ subst P (sym (named name (codes "deliver") h.0)) (one_ok shape Deliver (codes "deliver") a line refl (λ x. plain refl refl) h.1)
-      | inr h ↦ elim (chosen (bytes_eq name (codes "lead")) (one shape Lead a) _ (Ok line) h.1) [
+      | inr h ↦ elim (chosen (bytes_eq name (codes "lead")) (one (in_range shape) Lead a) _ (Ok line) h.1) [
         | inl h ↦ subst P (sym (named name (codes "lead") h.0)) (one_ok shape Lead (codes "lead") a line refl (λ x. plain refl refl) h.1)
-        | inr h ↦ elim (chosen (bytes_eq name (codes "crash")) (one shape Crash a) _ (Ok line) h.1) [
+        | inr h ↦ elim (chosen (bytes_eq name (codes "crash")) (one (in_range shape) Crash a) _ (Ok line) h.1) [
           | inl h ↦ subst P (sym (named name (codes "crash") h.0)) (one_ok shape Crash (codes "crash") a line refl (λ x. plain refl refl) h.1)
           | inr h ↦ bad_word line _ h.1
         ]
@@ -153,13 +153,13 @@ by_one shape name a line e =
 by_two : (shape : Shape) (name a b : List ℕ) (line : Line) → said_by_two shape name a b ≡ Ok line → IsRead shape (name ∷ a ∷ b ∷ []) line
 by_two shape name a b line e =
     let P : List ℕ → Type 0 = λ n. IsRead shape (n ∷ a ∷ b ∷ []) line in
-    elim (chosen (bytes_eq name (codes "open")) (two shape Open a b) _ (Ok line) e) [
+    elim (chosen (bytes_eq name (codes "open")) (two (in_range shape) Open a b) _ (Ok line) e) [
       | inl h ↦ subst P (sym (named name (codes "open") h.0)) (two_ok shape Open (codes "open") a b line refl (λ x y. plain refl refl) h.1)
-      | inr h ↦ elim (chosen (bytes_eq name (codes "flush")) (two shape Flush a b) _ (Ok line) h.1) [
+      | inr h ↦ elim (chosen (bytes_eq name (codes "flush")) (two (in_range shape) Flush a b) _ (Ok line) h.1) [
         | inl h ↦ subst P (sym (named name (codes "flush") h.0)) (two_ok shape Flush (codes "flush") a b line refl (λ x y. plain refl refl) h.1)
-        | inr h ↦ elim (chosen (bytes_eq name (codes "forward")) (two shape Forward a b) _ (Ok line) h.1) [
+        | inr h ↦ elim (chosen (bytes_eq name (codes "forward")) (two (in_range shape) Forward a b) _ (Ok line) h.1) [
           | inl h ↦ subst P (sym (named name (codes "forward") h.0)) (two_ok shape Forward (codes "forward") a b line refl (λ x y. plain refl refl) h.1)
-          | inr h ↦ elim (chosen (bytes_eq name (codes "settle")) (two shape Settle a b) _ (Ok line) h.1) [
+          | inr h ↦ elim (chosen (bytes_eq name (codes "settle")) (two (in_range shape) Settle a b) _ (Ok line) h.1) [
             | inl h ↦ subst P (sym (named name (codes "settle") h.0)) (two_ok shape Settle (codes "settle") a b line refl (λ x y. plain refl refl) h.1)
             | inr h ↦ bad_word line _ h.1
           ]
@@ -170,9 +170,9 @@ by_two shape name a b line e =
 by_three : (shape : Shape) (name a b c : List ℕ) (line : Line) → said_by_three shape name a b c ≡ Ok line → IsRead shape (name ∷ a ∷ b ∷ c ∷ []) line
 by_three shape name a b c line e =
     let P : List ℕ → Type 0 = λ n. IsRead shape (n ∷ a ∷ b ∷ c ∷ []) line in
-    elim (chosen (bytes_eq name (codes "close")) (three shape Close a b c) _ (Ok line) e) [
+    elim (chosen (bytes_eq name (codes "close")) (three (in_range shape) Close a b c) _ (Ok line) e) [
       | inl h ↦ subst P (sym (named name (codes "close") h.0)) (three_ok shape Close (codes "close") a b c line refl (λ x y z. plain refl refl) h.1)
-      | inr h ↦ elim (chosen (bytes_eq name (codes "tick")) (three shape Tick a b c) _ (Ok line) h.1) [
+      | inr h ↦ elim (chosen (bytes_eq name (codes "tick")) (three (in_range shape) Tick a b c) _ (Ok line) h.1) [
         | inl h ↦ subst P (sym (named name (codes "tick") h.0)) (three_ok shape Tick (codes "tick") a b c line refl (λ x y z. plain refl refl) h.1)
         | inr h ↦ bad_word line _ h.1
       ]
@@ -181,7 +181,7 @@ by_three shape name a b c line e =
 by_four : (shape : Shape) (name a b c d : List ℕ) (line : Line) → said_by_four shape name a b c d ≡ Ok line → IsRead shape (name ∷ a ∷ b ∷ c ∷ d ∷ []) line
 by_four shape name a b c d line e =
     let P : List ℕ → Type 0 = λ n. IsRead shape (n ∷ a ∷ b ∷ c ∷ d ∷ []) line in
-    elim (chosen (bytes_eq name (codes "bytes")) (three_and_hex shape Bytes a b c d) _ (Ok line) e) [
+    elim (chosen (bytes_eq name (codes "bytes")) (three_and_hex (in_range shape) Bytes a b c d) _ (Ok line) e) [
       | inl h ↦ subst P (sym (named name (codes "bytes") h.0)) (bytes_ok shape a b c d line h.1)
       | inr h ↦ bad_word line _ h.1
     ]
