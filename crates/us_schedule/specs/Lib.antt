@@ -3,3 +3,4 @@ pub mod Lines
 pub mod Text
 pub mod Parts
 pub mod Rows
+pub mod Trace

@@ -1,4 +1,4 @@
-//! The schedule's text: its lines, and what each line says.
+//! The text of schedules and of traces: its lines, and what each line says.
 #![tactic(auto)]
 
 mod fault;
@@ -7,6 +7,9 @@ mod line;
 mod numbers;
 mod reading;
 mod text;
+mod trace_line;
+mod trace_reading;
+mod trace_writing;
 mod writing;
 
 pub use fault::LineFault;
@@ -16,6 +19,9 @@ pub use laws::{
 pub use line::Line;
 pub use reading::read_line;
 pub use text::{Lines, NoSeparator, Parts, lines_of, next_line, split_text};
+pub use trace_line::TraceLine;
+pub use trace_reading::read_trace_line;
+pub use trace_writing::write_trace_line;
 pub use writing::write_line;
 
 #[cfg(test)]

@@ -11,10 +11,10 @@ use us_base::{Limits, Shape};
 use us_kind::Bytes;
 
 /// The most bytes that a `bytes` line brings.
-const MOST_BYTES: usize = 65_536;
+pub const MOST_BYTES: usize = 65_536;
 
 /// The last clock that a line hands out.
-const LAST_CLOCK: u64 = Limits::CLOCK;
+pub const LAST_CLOCK: u64 = Limits::CLOCK;
 
 /// The most rounds of a `settle` line.
 const MOST_ROUNDS: u64 = Limits::ROUNDS;
@@ -43,13 +43,15 @@ pub fn read_line(alloc: Global, text: &[u8], shape: Shape) -> Result<Option<Line
     Ok(Some(line))
 }
 
-fn spaces_in(text: &[u8]) -> usize
+/// How many spaces the text has.
+pub fn spaces_in(text: &[u8]) -> usize
     ensures { result ≡ count_by (λ b. b == 32) text.now }
 {
     text.iter().filter(|byte| **byte == b' ').count()
 }
 
-fn words_of(alloc: Global, text: &[u8]) -> Result<Vec<&[u8]>, AllocError>
+/// What stands between the spaces.
+pub fn words_of(alloc: Global, text: &[u8]) -> Result<Vec<&[u8]>, AllocError>
     ensures { IfOk result (λ words. map (λ w. w.now) words.items ≡ slice_split (λ b. b == 32) text.now) }
 {
     text.split(|byte| *byte == b' ').collect(alloc)
@@ -174,7 +176,8 @@ fn bytes_line(
     })
 }
 
-fn bytes_of(alloc: Global, word: &[u8]) -> Result<Bytes, LineFault>
+/// The bytes that the word writes in hex.
+pub fn bytes_of(alloc: Global, word: &[u8]) -> Result<Bytes, LineFault>
     ensures { Says result (hex word.now) }
 {
     match hex::decode(alloc, word) {
