@@ -5,3 +5,5 @@ pub mod First
 pub mod Again
 pub mod Cuts
 pub mod Parting
+pub mod TraceGrammar
+pub mod TraceFirst
