@@ -7,3 +7,4 @@ pub mod Cuts
 pub mod Parting
 pub mod TraceGrammar
 pub mod TraceFirst
+pub mod TraceAgain

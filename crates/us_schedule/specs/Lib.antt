@@ -4,3 +4,4 @@ pub mod Text
 pub mod Parts
 pub mod Rows
 pub mod Trace
+pub mod TraceRows

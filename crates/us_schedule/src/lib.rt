@@ -14,7 +14,9 @@ mod writing;
 
 pub use fault::LineFault;
 pub use laws::{
-    read_line_is_written, refused_line_has_first_fault, worked_lines, written_line_is_read,
+    read_line_is_written, read_trace_line_is_written, refused_line_has_first_fault,
+    refused_trace_line_has_first_fault, worked_lines, worked_trace_lines, written_line_is_read,
+    written_trace_line_is_read,
 };
 pub use line::Line;
 pub use reading::read_line;
