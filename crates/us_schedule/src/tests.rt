@@ -369,9 +369,7 @@ fn a_long_frame(rt: HostRuntime) -> Result<(), Fail> {
     let frame = Bytes::of(vec![in rt.alloc(); 7u8; 65_537]?);
     let text = write_trace_line(rt.alloc(), &TraceLine::Take { frame })?;
     assert_eq!(rt; text.len(), 131_079);
-    match read_trace_line(rt.alloc(), text.as_slice(), THREE)? {
-        Some(TraceLine::Take { frame }) => assert_eq!(rt; frame.len(), 65_537),
-        _ => assert!(rt; false, "no frame"),
-    }
+    let line = read_trace_line(rt.alloc(), text.as_slice(), THREE)?.ok_or("no line")?;
+    assert!(rt; matches!(&line, TraceLine::Take { frame } if frame.len() == 65_537));
     Ok(())
 }
