@@ -241,10 +241,11 @@ impl Connections {
         sent == Sent::Whole
     }
 
-    /// Sends to another site, over a new connection where none stands, and says whether all bytes went out.
+    /// Sends to another site, over a new connection where none stands, and says whether all bytes went out. Nothing
+    /// goes to the own site.
     /// After a part of them the connection is closed.
     pub fn send_peer(&mut self, rt: &HostRuntime, site: u8, address: &str, piece: &[u8]) -> bool {
-        if !self.has_way_to(rt, site, address) {
+        if site == self.own || !self.has_way_to(rt, site, address) {
             return false;
         }
         let Some(place) = self.outgoing.iter().position(|way| way.site == site) else {
