@@ -4,20 +4,21 @@
 mod call;
 pub mod edge;
 mod form;
-mod real;
 mod replay;
 mod report;
 mod schedule;
 mod status;
 mod surely;
+mod words;
 
 pub use call::unistore;
 use edge::{ListClock, SureLinks};
-use real::{StdinSource, StdoutSink, words_of};
 pub use schedule::{Configured, Refusal, Schedule, Script, read_schedule};
 pub use status::{LimitKind, Reason, Status};
 use std::process::ExitCode;
 pub use surely::replay_surely;
+use us_real::{StdinSource, StdoutSink};
+use words::words_of;
 
 fn main(rt: HostRuntime) -> ExitCode {
     let alloc = rt.alloc();

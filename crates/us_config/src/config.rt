@@ -1,6 +1,5 @@
-ghost use Rattle.std.specs.Prelude.{◌≡◌, ◌≤◌, ◌-◌, Some, slice_get, IfOk};
+ghost use Rattle.std.specs.Prelude.{◌≡◌, ◌≤◌, ◌-◌, Some, slice_get, length, IfOk};
 ghost use Rattle.toml.specs.View.{table_view};
-ghost use Rattle.us_base.specs.Shape.{sites_of};
 ghost use Rattle.us_config.specs.Configs.{IsConfig};
 ghost use Rattle.us_config.specs.Values.{Says};
 ghost use Rattle.us_config.specs.Whole.{config_said};
@@ -47,11 +46,10 @@ impl Config {
         })
     }
 
-    /// What the node of a site, 1 to the number of sites, is to link with.
+    /// What the node of a site, from 1, is to link with. There are that many clients' addresses.
     pub fn plan_for(&self, alloc: Global, site: u8) -> Result<Plan, Memory>
-        requires config { IsConfig self.now }
         requires first { 1 ≤ site }
-        requires last { site ≤ sites_of self.now.shape }
+        requires clients { site ≤ length self.now.plan.clients }
         ensures site { IfOk result (λ plan. plan.site ≡ site) }
         ensures clients { IfOk result (λ plan. slice_get self.now.plan.clients (site - 1) ≡ Some plan.clients) }
         ensures peers { IfOk result (λ plan. plan.peers ≡ self.now.plan.peers) }

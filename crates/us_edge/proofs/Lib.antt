@@ -1,3 +1,5 @@
 pub mod Appending
 mod Loops
 mod Memory
+mod Connections
+mod Offers

@@ -2,6 +2,7 @@
 use Rattle.std.proofs.Common.{◌≡◌, ℕ, ◌+◌, ◌-◌, ◌<◌, ◌≤◌, List, [], ◌++◌, Option, take, drop, length, refl, sym, ap, subst, ◌∙◌, append_assoc, arith}
 use Rattle.std.proofs.lemmas.List.{append-nil, take-append-drop, nil_from_length, length-append, length-take-le}
 use Rattle.std.proofs.lemmas.Slice.{between_to_end}
+use Rattle.us_edge.specs.Faults.{Rose}
 use Rattle.us_edge.specs.Streams.{Appends, AppendsPrefix, Gives, GivesMoreThan, GivesSome}
 use Rattle.us_edge.proofs.Appending.{Appends-nothing, Appends-then, Gives-then}
 
@@ -54,3 +55,7 @@ reads_too_much limit before now after bytes buffer n so_far given fits more = re
 
 pub failed_reading : (before now after : Option (List ℕ)) (bytes : List ℕ) → Gives before now bytes → after ≡ now → GivesSome before after
 failed_reading before now after bytes so_far same = record { came = bytes; given = subst (λ (left : Option (List ℕ)). Gives before left bytes) (sym same) so_far }
+
+-- a count that rose later rose
+pub rose_later : (before then now : ℕ) → before ≤ then → then ≤ now → Rose then now → Rose before now
+rose_later before then now so_far counts rose = λ below. grind (arith, rose, below)

@@ -1,6 +1,6 @@
 -- Counts of faults.
-use Rattle.std.specs.Prelude.{ℕ, ◌+◌, ◌-◌, ◌^◌, ◌≤◌, min}
+use Rattle.std.specs.Prelude.{ℕ, ◌-◌, ◌^◌, ◌<◌, ◌≢◌}
 
--- a count of faults that rose; at the end of its type it stands still
+-- a count of faults that rose; only at the end of its type it may stand still
 abbrev pub Rose : ℕ → ℕ → Type 0
-Rose before now = min (before + 1) (2 ^ 64 - 1) ≤ now
+Rose before now = before ≢ 2 ^ 64 - 1 → before < now

@@ -5,3 +5,4 @@ pub mod Numbers
 pub mod Scripts
 pub mod Links
 pub mod Sure
+pub mod MemoryLinks

@@ -25,6 +25,17 @@ impl Calls {
         }
     }
 
+    /// Counts a call, and says whether it is to fail.
+    pub fn begin(&mut self) -> bool
+        ensures to_fail { result ≡ is_to_fail self.old.fails.items self.old.made }
+        ensures fails { self.new.fails ≡ self.old.fails }
+        ensures made { self.new.made ≡ counted self.old.made }
+        ensures faults { self.new.faults ≡ self.old.faults }
+    {
+        self.made = self.made.saturating_add(1);
+        self.fails.contains(&self.made)
+    }
+
     /// Counts a call, and a fault where it is to fail.
     pub fn count(&mut self) -> Result<(), Failed>
         ensures fails { self.new.fails ≡ self.old.fails }
@@ -32,8 +43,7 @@ impl Calls {
         ensures failed { is_err result ≡ is_to_fail self.old.fails.items self.old.made }
         ensures faults { self.new.faults ≡ (if is_err result then counted self.old.faults else self.old.faults) }
     {
-        self.made = self.made.saturating_add(1);
-        if self.fails.contains(&self.made) {
+        if self.begin() {
             self.count_fault();
             return Err(Failed);
         }

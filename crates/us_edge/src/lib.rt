@@ -8,8 +8,10 @@
 mod calls;
 mod clock;
 mod faults;
+mod kept;
 mod links;
 mod list_clock;
+mod memory_links;
 mod memory_sink;
 mod memory_source;
 mod reading;
@@ -24,6 +26,7 @@ pub use clock::Clock;
 pub use faults::{Failed, PollFault, ReadAllFault, StartFault};
 pub use links::{Dropped, LinkInput, Links, Offer, Outcome, Plan};
 pub use list_clock::ListClock;
+pub use memory_links::MemoryLinks;
 pub use memory_sink::MemorySink;
 pub use memory_source::MemorySource;
 pub use reading::read_all;

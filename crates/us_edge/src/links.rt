@@ -60,6 +60,27 @@ pub struct Dropped {
     pub before: u64,
 }
 
+impl LinkInput {
+    pub fn copy(&self) -> Result<LinkInput, Memory>
+        ensures { IfOk result (λ copy. copy ≡ self.now) }
+    {
+        match self {
+            LinkInput::Nothing => Ok(LinkInput::Nothing),
+            LinkInput::Opened { conn } => Ok(LinkInput::Opened { conn: *conn }),
+            LinkInput::ClientBytes { conn, bytes } => Ok(LinkInput::ClientBytes {
+                conn: *conn,
+                bytes: bytes.copy()?,
+            }),
+            LinkInput::ClientClosed { conn } => Ok(LinkInput::ClientClosed { conn: *conn }),
+            LinkInput::PeerBytes { site, bytes } => Ok(LinkInput::PeerBytes {
+                site: *site,
+                bytes: bytes.copy()?,
+            }),
+            LinkInput::PeerReset { site } => Ok(LinkInput::PeerReset { site: *site }),
+        }
+    }
+}
+
 impl Plan {
     /// A copy of the plan.
     pub fn copy(&self, alloc: Global) -> Result<Plan, Memory>
@@ -85,7 +106,7 @@ pub trait Links {
     ghost use Rattle.us_edge.specs.declared.links.LinkInput.{LinkInput};
     ghost use Rattle.us_edge.specs.declared.links.Offer.{Offer};
     ghost use Rattle.us_edge.specs.declared.links.Outcome.{Outcome};
-    ghost use Rattle.us_edge.specs.Links.{Connections, recorded, RecordsOrForgets, Polls, opened_by, IsOpen, AreDropsOfOpened, Drops};
+    ghost use Rattle.us_edge.specs.Links.{Connections, recorded, RecordsOrForgets, HasPiece, Polls, connections_after, IsOpen, AreDropsOfOpened, Drops};
 
     // The plan with which the last start answered Ok. There is none after one that failed.
     ghost planned: { Self → Option Plan };
@@ -123,10 +144,11 @@ pub trait Links {
         ensures plan { planned self.new ≡ planned self.old }
         ensures offers { offered self.new ≡ offered self.old }
 
-        // An input is the next one.
+        // An input is the next one, and its bytes are 1 to 65,536.
+        ensures piece { IfOk result HasPiece }
         ensures input { IfOk result (λ input. Polls (coming self.old) (coming self.new) input) }
         ensures ends { IfOk result (λ input. outcomes self.new ≡ recorded (outcomes self.old) (Outcome.Polled input)) }
-        ensures opened { IfOk result (λ input. connections self.new ≡ opened_by input (connections self.old)) }
+        ensures opened { IfOk result (λ input. connections self.new ≡ connections_after input (connections self.old)) }
         ensures drops { AreDropsOfOpened (connections self.new) }
 
         // A failure gives none.

@@ -1,4 +1,5 @@
-ghost use Rattle.std.specs.Prelude.{◌≡◌, Some, None};
+ghost use Rattle.std.specs.Prelude.{◌≡◌, Some, None, All};
+ghost use Rattle.us_edge.specs.Links.{HasPiece};
 
 use crate::{Failed, LinkInput, Links, Plan, PollFault, StartFault};
 use std::marker::Model;
@@ -12,17 +13,21 @@ pub struct SureLinks {
 }
 
 impl Model for SureLinks {
-    ghost use Rattle.std.specs.Prelude.{reverse};
+    ghost use Rattle.std.specs.Prelude.{All, reverse};
+    ghost use Rattle.us_edge.specs.Links.{HasPiece};
     ghost use Rattle.us_edge.specs.Sure.{SureLinks};
 
     ghost Value = { SureLinks };
 
     ghost view = { λ a. record { coming = reverse a.inputs.items; planned = a.plan } };
+
+    ghost invariant = { λ a. All HasPiece a.inputs.items };
 }
 
 impl SureLinks {
-    /// The links that give these inputs.
+    /// The links that give these inputs, whose bytes are 1 to 65,536 each time.
     pub fn new(mut inputs: Vec<LinkInput>) -> SureLinks
+        requires { All HasPiece inputs.items }
         ensures { result ≡ record { coming = inputs.items; planned = None } }
     {
         inputs.reverse();

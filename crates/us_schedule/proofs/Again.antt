@@ -15,22 +15,23 @@ use Rattle.us_base.specs.Shape.{sites_of, IsShape}
 use Rattle.us_schedule.specs.declared.fault.LineFault.{LineFault}
 use Rattle.us_schedule.specs.declared.line.Line.{Line}
 use Rattle.us_schedule.specs.declared.line.Line.TheVariants.{Open, Bytes, Close, Tick, Deliver, Flush, Lead, Forward, Crash, Settle}
-use Rattle.us_schedule.specs.Lines.{is_site, is_coord, is_actor, is_counted, is_clock, is_rounds, is_piece, number, one, two, three, three_and_hex, said, in_range, IsAllowed, words_of, spelling_of, lower_digit, Read, Skipped, Found, read_of, is_skipped, line_read, WrittenIsRead, ReadIsWritten}
+use Rattle.us_schedule.specs.Lines.{is_site, is_coord, is_actor, is_counted, is_clock, is_rounds, is_piece, number, one, two, three, three_and_hex, said, in_range, IsAllowed, words_of, spelling_of, lower_digit, Reading, Skipped, Found, text_read, read_of, is_skipped, line_read, WrittenIsRead, ReadIsWritten}
+use Rattle.us_schedule.specs.Trace.{hex_alone, two_and_hex}
 use Rattle.us_schedule.proofs.Digits.{own, digits_decide}
 use Rattle.us_schedule.proofs.Words.{number_again, hex_again}
 use Rattle.us_schedule.proofs.Grammar.{lower_words, said_is_read}
 
 -- ---- words and spaces
 
-abbrev NoSpace : List ℕ → Type 0
+abbrev pub NoSpace : List ℕ → Type 0
 NoSpace [] = Unit {0}
 NoSpace (b ∷ bs) = (eqb b 32 ≡ false) × NoSpace bs
 
-abbrev NoSpaces : List (List ℕ) → Type 0
+abbrev pub NoSpaces : List (List ℕ) → Type 0
 NoSpaces [] = Unit {0}
 NoSpaces (w ∷ ws) = NoSpace w × NoSpaces ws
 
-abbrev split_words : List ℕ → List (List ℕ)
+abbrev pub split_words : List ℕ → List (List ℕ)
 split_words text = slice_split (λ b. b == 32) text
 
 split_last : (w : List ℕ) → NoSpace w → split_words w ≡ w ∷ []
@@ -49,10 +50,10 @@ digits_no_space : (word : List ℕ) → AllDigits 10 word → NoSpace word
 digits_no_space [] h = tt
 digits_no_space (c ∷ word) h = let range = digit_from_value c h.0 in (ne_eqb c 32 (λ e. omega arith), digits_no_space word h.1)
 
-decimal_no_space : (n : ℕ) → n < 2 ^ 64 → NoSpace (decimal n)
+pub decimal_no_space : (n : ℕ) → n < 2 ^ 64 → NoSpace (decimal n)
 decimal_no_space n lt = digits_no_space (decimal n) ((digits_decide (decimal n)).0 (digits_decimal own n lt))
 
-hex_no_space : (bytes : List ℕ) → IsBytes bytes → NoSpace (encode_lower bytes)
+pub hex_no_space : (bytes : List ℕ) → IsBytes bytes → NoSpace (encode_lower bytes)
 unfolding encode_with
 hex_no_space [] h = tt
 hex_no_space (b ∷ bytes) h =
@@ -63,56 +64,64 @@ hex_no_space (b ∷ bytes) h =
 
 -- ---- written is read
 
-read_again : (shape : Shape) (c : ℕ) (name : List ℕ) (ws : List (List ℕ)) (line : Line) → eqb c 35 ≡ false → NoSpaces ((c ∷ name) ∷ ws)
-    → said shape ((c ∷ name) ∷ ws) ≡ Ok line → is_skipped (join_with_byte 32 ((c ∷ name) ∷ ws)) ≡ false → line_read shape (join_with_byte 32 ((c ∷ name) ∷ ws)) ≡ Found line
-read_again shape c name ws line other spaces says skipped = rw (skipped, split_joined (c ∷ name) ws spaces, says) refl
+read_again : {L : Type 0} (says : List (List ℕ) → Result L LineFault) (c : ℕ) (name : List ℕ) (ws : List (List ℕ)) (line : L) → NoSpaces ((c ∷ name) ∷ ws)
+    → says ((c ∷ name) ∷ ws) ≡ Ok line → is_skipped (join_with_byte 32 ((c ∷ name) ∷ ws)) ≡ false → text_read says (join_with_byte 32 ((c ∷ name) ∷ ws)) ≡ Found line
+read_again says c name ws line spaces said skipped = rw (skipped, split_joined (c ∷ name) ws spaces, said) refl
 
 not_skipped : (c : ℕ) (rest : List ℕ) → eqb c 35 ≡ false → is_skipped (c ∷ rest) ≡ false
 not_skipped c rest e = let some : (length (c ∷ rest) == 0) ≡ false = ne_eqb (length (c ∷ rest)) 0 (λ z. omega arith) in rw (some, e) refl
 
-site_below : (shape : Shape) (n : ℕ) → IsShape shape → is_site shape n ≡ true → n < 2 ^ 64
+pub site_below : (shape : Shape) (n : ℕ) → IsShape shape → is_site shape n ≡ true → n < 2 ^ 64
 site_below shape n ok h = let p : n ≤ sites_of shape = leb-true _ _ (and_parts (leb 1 n) (leb n (sites_of shape)) h).1 in omega arith
 
-coord_below : (shape : Shape) (n : ℕ) → IsShape shape → is_coord shape n ≡ true → n < 2 ^ 64
+pub coord_below : (shape : Shape) (n : ℕ) → IsShape shape → is_coord shape n ≡ true → n < 2 ^ 64
 coord_below shape n ok h = let p : n ≤ shape.parts = leb-true _ _ (and_parts (leb 1 n) (leb n shape.parts) h).1 in omega arith
 
-actor_below : (shape : Shape) (n : ℕ) → IsShape shape → is_actor shape n ≡ true → n < 2 ^ 64
+pub actor_below : (shape : Shape) (n : ℕ) → IsShape shape → is_actor shape n ≡ true → n < 2 ^ 64
 actor_below shape n ok h = let p : n ≤ shape.parts = leb-true _ _ h in omega arith
 
-counted_below : (n : ℕ) → is_counted n ≡ true → n < 2 ^ 64
+pub counted_below : (n : ℕ) → is_counted n ≡ true → n < 2 ^ 64
 counted_below n h = ltb-true n (2 ^ 64) (and_parts (leb 1 n) (ltb n (2 ^ 64)) h).1
 
-clock_below : (n : ℕ) → is_clock n ≡ true → n < 2 ^ 64
+pub clock_below : (n : ℕ) → is_clock n ≡ true → n < 2 ^ 64
 clock_below n h = let p : n ≤ 2 ^ 59 = leb-true _ _ h in omega arith
 
 rounds_below : (n : ℕ) → is_rounds n ≡ true → n < 2 ^ 64
 rounds_below n h = let p : n ≤ 100000 = leb-true _ _ h in omega arith
 
-one_again : (shape : Shape) (make : ℕ → Line) (x : ℕ) → x < 2 ^ 64 → in_range shape (make x) ≡ true → one shape make (decimal x) ≡ Ok (make x)
-one_again shape make x lx ranges = rw (number_again x lx, ranges) refl
+pub one_again : {L : Type 0} (ranges : L → Bool) (make : ℕ → L) (x : ℕ) → x < 2 ^ 64 → ranges (make x) ≡ true → one ranges make (decimal x) ≡ Ok (make x)
+one_again ranges make x lx fits = rw (number_again x lx, fits) refl
 
-two_again : (shape : Shape) (make : ℕ → ℕ → Line) (x y : ℕ) → x < 2 ^ 64 → y < 2 ^ 64 → in_range shape (make x y) ≡ true → two shape make (decimal x) (decimal y) ≡ Ok (make x y)
-two_again shape make x y lx ly ranges = rw (number_again x lx, number_again y ly, ranges) refl
+pub two_again : {L : Type 0} (ranges : L → Bool) (make : ℕ → ℕ → L) (x y : ℕ) → x < 2 ^ 64 → y < 2 ^ 64 → ranges (make x y) ≡ true → two ranges make (decimal x) (decimal y) ≡ Ok (make x y)
+two_again ranges make x y lx ly fits = rw (number_again x lx, number_again y ly, fits) refl
 
-three_again : (shape : Shape) (make : ℕ → ℕ → ℕ → Line) (x y z : ℕ) → x < 2 ^ 64 → y < 2 ^ 64 → z < 2 ^ 64 → in_range shape (make x y z) ≡ true → three shape make (decimal x) (decimal y) (decimal z) ≡ Ok (make x y z)
-three_again shape make x y z lx ly lz ranges = rw (number_again x lx, number_again y ly, number_again z lz, ranges) refl
+three_again : {L : Type 0} (ranges : L → Bool) (make : ℕ → ℕ → ℕ → L) (x y z : ℕ) → x < 2 ^ 64 → y < 2 ^ 64 → z < 2 ^ 64 → ranges (make x y z) ≡ true → three ranges make (decimal x) (decimal y) (decimal z) ≡ Ok (make x y z)
+three_again ranges make x y z lx ly lz fits = rw (number_again x lx, number_again y ly, number_again z lz, fits) refl
 
-bytes_again : (shape : Shape) (x y z : ℕ) (bytes : List ℕ) → x < 2 ^ 64 → y < 2 ^ 64 → z < 2 ^ 64 → IsBytes bytes → in_range shape (Bytes x y z bytes) ≡ true → three_and_hex shape Bytes (decimal x) (decimal y) (decimal z) (encode_lower bytes) ≡ Ok (Bytes x y z bytes)
-bytes_again shape x y z bytes lx ly lz fits ranges = rw (number_again x lx, number_again y ly, number_again z lz, hex_again bytes fits, ranges) refl
+pub hex_alone_again : {L : Type 0} (ranges : L → Bool) (make : List ℕ → L) (bytes : List ℕ) → IsBytes bytes → ranges (make bytes) ≡ true → hex_alone ranges make (encode_lower bytes) ≡ Ok (make bytes)
+hex_alone_again ranges make bytes all fits = rw (hex_again bytes all, fits) refl
+
+pub two_and_hex_again : {L : Type 0} (ranges : L → Bool) (make : ℕ → ℕ → List ℕ → L) (x y : ℕ) (bytes : List ℕ) → x < 2 ^ 64 → y < 2 ^ 64 → IsBytes bytes → ranges (make x y bytes) ≡ true
+    → two_and_hex ranges make (decimal x) (decimal y) (encode_lower bytes) ≡ Ok (make x y bytes)
+two_and_hex_again ranges make x y bytes lx ly all fits = rw (number_again x lx, number_again y ly, hex_again bytes all, fits) refl
+
+three_and_hex_again : {L : Type 0} (ranges : L → Bool) (make : ℕ → ℕ → ℕ → List ℕ → L) (x y z : ℕ) (bytes : List ℕ) → x < 2 ^ 64 → y < 2 ^ 64 → z < 2 ^ 64 → IsBytes bytes → ranges (make x y z bytes) ≡ true
+    → three_and_hex ranges make (decimal x) (decimal y) (decimal z) (encode_lower bytes) ≡ Ok (make x y z bytes)
+three_and_hex_again ranges make x y z bytes lx ly lz all fits = rw (number_again x lx, number_again y ly, number_again z lz, hex_again bytes all, fits) refl
 
 -- the words of a line are read as the line, and hold no space
-record AreWords (shape : Shape) (line : Line) : Type 0 where
-  says : said shape (words_of line) ≡ Ok line
-  spaces : NoSpaces (words_of line)
+pub record AreWords (L : Type 0) (says : List (List ℕ) → Result L LineFault) (words : List (List ℕ)) (line : L) : Type 0 where
+  pub says_line : says words ≡ Ok line
+  pub spaces : NoSpaces words
 
-words_again : (shape : Shape) (line : Line) → IsShape shape → IsAllowed shape line → AreWords shape line
+words_again : (shape : Shape) (line : Line) → IsShape shape → IsAllowed shape line → AreWords Line (said shape) (words_of line) line
 unfolding said
 words_again shape (Open site coord) ok h =
     let r = and_parts (is_site shape site) (is_coord shape coord) h.ranges in
     let ls = site_below shape site ok r.0 in
     let lc = coord_below shape coord ok r.1 in
     record {
-      says = two_again shape Open site coord ls lc h.ranges;
+      says_line = two_again (in_range shape) Open site coord ls lc h.ranges;
       spaces = ((refl, (refl, (refl, (refl, tt)))), (decimal_no_space site ls, (decimal_no_space coord lc, tt)));
     }
 words_again shape (Bytes site coord session bytes) ok h =
@@ -123,7 +132,7 @@ words_again shape (Bytes site coord session bytes) ok h =
     let lc = coord_below shape coord ok q.0 in
     let ln = counted_below session p.0 in
     record {
-      says = bytes_again shape site coord session bytes ls lc ln h.bytes h.ranges;
+      says_line = three_and_hex_again (in_range shape) Bytes site coord session bytes ls lc ln h.bytes h.ranges;
       spaces = ((refl, (refl, (refl, (refl, (refl, tt))))), (decimal_no_space site ls, (decimal_no_space coord lc, (decimal_no_space session ln, (hex_no_space bytes h.bytes, tt)))));
     }
 words_again shape (Close site coord session) ok h =
@@ -133,7 +142,7 @@ words_again shape (Close site coord session) ok h =
     let lc = coord_below shape coord ok q.0 in
     let ln = counted_below session q.1 in
     record {
-      says = three_again shape Close site coord session ls lc ln h.ranges;
+      says_line = three_again (in_range shape) Close site coord session ls lc ln h.ranges;
       spaces = ((refl, (refl, (refl, (refl, (refl, tt))))), (decimal_no_space site ls, (decimal_no_space coord lc, (decimal_no_space session ln, tt))));
     }
 words_again shape (Tick site actor clock) ok h =
@@ -143,13 +152,13 @@ words_again shape (Tick site actor clock) ok h =
     let la = actor_below shape actor ok q.0 in
     let lk = clock_below clock q.1 in
     record {
-      says = three_again shape Tick site actor clock ls la lk h.ranges;
+      says_line = three_again (in_range shape) Tick site actor clock ls la lk h.ranges;
       spaces = ((refl, (refl, (refl, (refl, tt)))), (decimal_no_space site ls, (decimal_no_space actor la, (decimal_no_space clock lk, tt))));
     }
 words_again shape (Deliver number) ok h =
     let ln = counted_below number h.ranges in
     record {
-      says = one_again shape Deliver number ln h.ranges;
+      says_line = one_again (in_range shape) Deliver number ln h.ranges;
       spaces = ((refl, (refl, (refl, (refl, (refl, (refl, (refl, tt))))))), (decimal_no_space number ln, tt));
     }
 words_again shape (Flush from to) ok h =
@@ -157,13 +166,13 @@ words_again shape (Flush from to) ok h =
     let lf = site_below shape from ok r.0 in
     let lt = site_below shape to ok r.1 in
     record {
-      says = two_again shape Flush from to lf lt h.ranges;
+      says_line = two_again (in_range shape) Flush from to lf lt h.ranges;
       spaces = ((refl, (refl, (refl, (refl, (refl, tt))))), (decimal_no_space from lf, (decimal_no_space to lt, tt)));
     }
 words_again shape (Lead site) ok h =
     let ls = site_below shape site ok h.ranges in
     record {
-      says = one_again shape Lead site ls h.ranges;
+      says_line = one_again (in_range shape) Lead site ls h.ranges;
       spaces = ((refl, (refl, (refl, (refl, tt)))), (decimal_no_space site ls, tt));
     }
 words_again shape (Forward site origin) ok h =
@@ -172,13 +181,13 @@ words_again shape (Forward site origin) ok h =
     let ls = site_below shape site ok r.0 in
     let lo = site_below shape origin ok q.0 in
     record {
-      says = two_again shape Forward site origin ls lo h.ranges;
+      says_line = two_again (in_range shape) Forward site origin ls lo h.ranges;
       spaces = ((refl, (refl, (refl, (refl, (refl, (refl, (refl, tt))))))), (decimal_no_space site ls, (decimal_no_space origin lo, tt)));
     }
 words_again shape (Crash site) ok h =
     let ls = site_below shape site ok h.ranges in
     record {
-      says = one_again shape Crash site ls h.ranges;
+      says_line = one_again (in_range shape) Crash site ls h.ranges;
       spaces = ((refl, (refl, (refl, (refl, (refl, tt))))), (decimal_no_space site ls, tt));
     }
 words_again shape (Settle clock rounds) ok h =
@@ -186,44 +195,48 @@ words_again shape (Settle clock rounds) ok h =
     let lk = clock_below clock r.0 in
     let lr = rounds_below rounds r.1 in
     record {
-      says = two_again shape Settle clock rounds lk lr h.ranges;
+      says_line = two_again (in_range shape) Settle clock rounds lk lr h.ranges;
       spaces = ((refl, (refl, (refl, (refl, (refl, (refl, tt)))))), (decimal_no_space clock lk, (decimal_no_space rounds lr, tt)));
     }
 
-again : (shape : Shape) (line : Line) (c : ℕ) (name : List ℕ) (w : List ℕ) (ws : List (List ℕ)) → words_of line ≡ (c ∷ name) ∷ w ∷ ws → eqb c 35 ≡ false → AreWords shape line → line_read shape (spelling_of line) ≡ Found line
-again shape line c name w ws is other words =
-    let P : List (List ℕ) → Type 0 = λ ws. line_read shape (join_with_byte 32 ws) ≡ Found line in
+pub again : {L : Type 0} (says : List (List ℕ) → Result L LineFault) (all : List (List ℕ)) (line : L) (c : ℕ) (name : List ℕ) (w : List ℕ) (ws : List (List ℕ)) → all ≡ (c ∷ name) ∷ w ∷ ws → eqb c 35 ≡ false → AreWords L says all line → text_read says (join_with_byte 32 all) ≡ Found line
+again says all line c name w ws is other words =
+    let P : List (List ℕ) → Type 0 = λ ws. text_read says (join_with_byte 32 ws) ≡ Found line in
     let S : List (List ℕ) → Type 0 = λ ws. NoSpaces ws in
-    let Q : List (List ℕ) → Type 0 = λ ws. said shape ws ≡ Ok line in
-    subst P (sym is) (read_again shape c name (w ∷ ws) line other (subst S is words.spaces) (subst Q is words.says) (not_skipped c (name ++ 32 ∷ join_with_byte 32 (w ∷ ws)) other))
+    let Q : List (List ℕ) → Type 0 = λ ws. says ws ≡ Ok line in
+    subst P (sym is) (read_again says c name (w ∷ ws) line (subst S is words.spaces) (subst Q is words.says_line) (not_skipped c (name ++ 32 ∷ join_with_byte 32 (w ∷ ws)) other))
+
+-- the same of a line of its name alone
+pub name_again : {L : Type 0} (says : List (List ℕ) → Result L LineFault) (line : L) (c : ℕ) (name : List ℕ) → eqb c 35 ≡ false → AreWords L says ((c ∷ name) ∷ []) line → text_read says (join_with_byte 32 ((c ∷ name) ∷ [])) ≡ Found line
+name_again says line c name other words = read_again says c name [] line words.spaces words.says_line (not_skipped c name other)
 
 pub written_is_read : WrittenIsRead
 written_is_read shape line ok h = by_name line (words_again shape line ok h)
   where
-    by_name : (line : Line) → AreWords shape line → line_read shape (spelling_of line) ≡ Found line
-    by_name (Open site coord) words = again shape (Open site coord) _ _ _ _ refl refl words
-    by_name (Bytes site coord session bytes) words = again shape (Bytes site coord session bytes) _ _ _ _ refl refl words
-    by_name (Close site coord session) words = again shape (Close site coord session) _ _ _ _ refl refl words
-    by_name (Tick site actor clock) words = again shape (Tick site actor clock) _ _ _ _ refl refl words
-    by_name (Deliver number) words = again shape (Deliver number) _ _ _ _ refl refl words
-    by_name (Flush from to) words = again shape (Flush from to) _ _ _ _ refl refl words
-    by_name (Lead site) words = again shape (Lead site) _ _ _ _ refl refl words
-    by_name (Forward site origin) words = again shape (Forward site origin) _ _ _ _ refl refl words
-    by_name (Crash site) words = again shape (Crash site) _ _ _ _ refl refl words
-    by_name (Settle clock rounds) words = again shape (Settle clock rounds) _ _ _ _ refl refl words
+    by_name : (line : Line) → AreWords Line (said shape) (words_of line) line → line_read shape (spelling_of line) ≡ Found line
+    by_name (Open site coord) words = again (said shape) (words_of (Open site coord)) (Open site coord) _ _ _ _ refl refl words
+    by_name (Bytes site coord session bytes) words = again (said shape) (words_of (Bytes site coord session bytes)) (Bytes site coord session bytes) _ _ _ _ refl refl words
+    by_name (Close site coord session) words = again (said shape) (words_of (Close site coord session)) (Close site coord session) _ _ _ _ refl refl words
+    by_name (Tick site actor clock) words = again (said shape) (words_of (Tick site actor clock)) (Tick site actor clock) _ _ _ _ refl refl words
+    by_name (Deliver number) words = again (said shape) (words_of (Deliver number)) (Deliver number) _ _ _ _ refl refl words
+    by_name (Flush from to) words = again (said shape) (words_of (Flush from to)) (Flush from to) _ _ _ _ refl refl words
+    by_name (Lead site) words = again (said shape) (words_of (Lead site)) (Lead site) _ _ _ _ refl refl words
+    by_name (Forward site origin) words = again (said shape) (words_of (Forward site origin)) (Forward site origin) _ _ _ _ refl refl words
+    by_name (Crash site) words = again (said shape) (words_of (Crash site)) (Crash site) _ _ _ _ refl refl words
+    by_name (Settle clock rounds) words = again (said shape) (words_of (Settle clock rounds)) (Settle clock rounds) _ _ _ _ refl refl words
 
 -- ---- read is written
 
-lower_joined : (ws : List (List ℕ)) → map lower_digit (join_with_byte 32 ws) ≡ join_with_byte 32 (lower_words ws)
+pub lower_joined : (ws : List (List ℕ)) → map lower_digit (join_with_byte 32 ws) ≡ join_with_byte 32 (lower_words ws)
 lower_joined [] = refl
 lower_joined (w ∷ []) = refl
 lower_joined (w ∷ x ∷ ws) = map-append lower_digit w (32 ∷ join_with_byte 32 (x ∷ ws)) ∙ ap (λ (r : List ℕ). map lower_digit w ++ 32 ∷ r) (lower_joined (x ∷ ws))
 
-found_is : (r : Result Line LineFault) (line : Line) → read_of r ≡ Found line → r ≡ Ok line
+pub found_is : {L : Type 0} (r : Result L LineFault) (line : L) → read_of r ≡ Found line → r ≡ Ok line
 found_is (Ok made) line e = let k : made ≡ line = cc in ap Ok k
 found_is (Err f) line e = absurd cc
 
-not_none : (b : Bool) (read : Read) (line : Line) → cond b Skipped read ≡ Found line → read ≡ Found line
+pub not_none : {L : Type 0} (b : Bool) (read : Reading L) (line : L) → cond b Skipped read ≡ Found line → read ≡ Found line
 not_none true read line e = absurd cc
 not_none false read line e = e
 

@@ -5,3 +5,6 @@ pub mod First
 pub mod Again
 pub mod Cuts
 pub mod Parting
+pub mod TraceGrammar
+pub mod TraceFirst
+pub mod TraceAgain

@@ -81,11 +81,15 @@ spelling_of line = join_with_byte 32 (words_of line)
 
 -- ---- reading
 
--- what a line says
-pub data Read : Type 0 where
-  Skipped : Read
-  Found : Line → Read
-  Refused : LineFault → Read
+-- what a text says as a line of the kind L
+pub data Reading (L : Type 0) : Type 0 where
+  Skipped : Reading L
+  Found : L → Reading L
+  Refused : LineFault → Reading L
+
+-- what a line of a schedule says
+abbrev pub Read : Type 0
+Read = Reading Line
 
 infixl 10 ◌>>=◌
 abbrev pub ◌>>=◌ : {A B : Type 0} → Result A LineFault → (A → Result B LineFault) → Result B LineFault
@@ -115,59 +119,61 @@ hex_of (Err e) = Err fault.BadHex
 abbrev pub hex : List ℕ → Result (List ℕ) LineFault
 hex word = hex_of (decode_of word)
 
-abbrev pub within : Shape → Line → Result Line LineFault
-within shape line = if in_range shape line then Ok line else Err fault.OutOfRange
+-- the line, where it is in range
+abbrev pub within : {L : Type 0} → (L → Bool) → L → Result L LineFault
+within ranges line = if ranges line then Ok line else Err fault.OutOfRange
 
-abbrev pub one : Shape → (ℕ → Line) → List ℕ → Result Line LineFault
-one shape line a = do
+-- the line of so many numbers, and of bytes in hex
+abbrev pub one : {L : Type 0} → (L → Bool) → (ℕ → L) → List ℕ → Result L LineFault
+one ranges line a = do
   x ← number a
-  within shape (line x)
+  within ranges (line x)
 
-abbrev pub two : Shape → (ℕ → ℕ → Line) → List ℕ → List ℕ → Result Line LineFault
-two shape line a b = do
+abbrev pub two : {L : Type 0} → (L → Bool) → (ℕ → ℕ → L) → List ℕ → List ℕ → Result L LineFault
+two ranges line a b = do
   x ← number a
   y ← number b
-  within shape (line x y)
+  within ranges (line x y)
 
-abbrev pub three : Shape → (ℕ → ℕ → ℕ → Line) → List ℕ → List ℕ → List ℕ → Result Line LineFault
-three shape line a b c = do
+abbrev pub three : {L : Type 0} → (L → Bool) → (ℕ → ℕ → ℕ → L) → List ℕ → List ℕ → List ℕ → Result L LineFault
+three ranges line a b c = do
   x ← number a
   y ← number b
   z ← number c
-  within shape (line x y z)
+  within ranges (line x y z)
 
-abbrev pub three_and_hex : Shape → (ℕ → ℕ → ℕ → List ℕ → Line) → List ℕ → List ℕ → List ℕ → List ℕ → Result Line LineFault
-three_and_hex shape line a b c d = do
+abbrev pub three_and_hex : {L : Type 0} → (L → Bool) → (ℕ → ℕ → ℕ → List ℕ → L) → List ℕ → List ℕ → List ℕ → List ℕ → Result L LineFault
+three_and_hex ranges line a b c d = do
   x ← number a
   y ← number b
   z ← number c
   bytes ← hex d
-  within shape (line x y z bytes)
+  within ranges (line x y z bytes)
 
 -- the line of a name and the words behind it
 abbrev pub said_by_one : Shape → List ℕ → List ℕ → Result Line LineFault
 said_by_one shape name a =
-    if bytes_eq name (codes "deliver") then one shape Deliver a
-    else if bytes_eq name (codes "lead") then one shape Lead a
-    else if bytes_eq name (codes "crash") then one shape Crash a
+    if bytes_eq name (codes "deliver") then one (in_range shape) Deliver a
+    else if bytes_eq name (codes "lead") then one (in_range shape) Lead a
+    else if bytes_eq name (codes "crash") then one (in_range shape) Crash a
     else Err fault.BadWord
 
 abbrev pub said_by_two : Shape → List ℕ → List ℕ → List ℕ → Result Line LineFault
 said_by_two shape name a b =
-    if bytes_eq name (codes "open") then two shape Open a b
-    else if bytes_eq name (codes "flush") then two shape Flush a b
-    else if bytes_eq name (codes "forward") then two shape Forward a b
-    else if bytes_eq name (codes "settle") then two shape Settle a b
+    if bytes_eq name (codes "open") then two (in_range shape) Open a b
+    else if bytes_eq name (codes "flush") then two (in_range shape) Flush a b
+    else if bytes_eq name (codes "forward") then two (in_range shape) Forward a b
+    else if bytes_eq name (codes "settle") then two (in_range shape) Settle a b
     else Err fault.BadWord
 
 abbrev pub said_by_three : Shape → List ℕ → List ℕ → List ℕ → List ℕ → Result Line LineFault
 said_by_three shape name a b c =
-    if bytes_eq name (codes "close") then three shape Close a b c
-    else if bytes_eq name (codes "tick") then three shape Tick a b c
+    if bytes_eq name (codes "close") then three (in_range shape) Close a b c
+    else if bytes_eq name (codes "tick") then three (in_range shape) Tick a b c
     else Err fault.BadWord
 
 abbrev pub said_by_four : Shape → List ℕ → List ℕ → List ℕ → List ℕ → List ℕ → Result Line LineFault
-said_by_four shape name a b c d = if bytes_eq name (codes "bytes") then three_and_hex shape Bytes a b c d else Err fault.BadWord
+said_by_four shape name a b c d = if bytes_eq name (codes "bytes") then three_and_hex (in_range shape) Bytes a b c d else Err fault.BadWord
 
 -- the line of all its words
 unfoldable pub said : Shape → List (List ℕ) → Result Line LineFault
@@ -177,7 +183,7 @@ said shape (name ∷ a ∷ b ∷ c ∷ []) = said_by_three shape name a b c
 said shape (name ∷ a ∷ b ∷ c ∷ d ∷ []) = said_by_four shape name a b c d
 said shape _ = Err fault.BadWord
 
-abbrev pub read_of : Result Line LineFault → Read
+abbrev pub read_of : {L : Type 0} → Result L LineFault → Reading L
 read_of (Ok line) = Found line
 read_of (Err e) = Refused e
 
@@ -185,9 +191,13 @@ read_of (Err e) = Refused e
 abbrev pub is_skipped : List ℕ → Bool
 is_skipped text = (length text == 0) || (slice_index text 0 == 35)
 
--- what a line of a schedule says: its words stand between single spaces, so two spaces together make an empty word
+-- what a text says whose words say so: they stand between single spaces, so two spaces together make an empty word
+abbrev pub text_read : {L : Type 0} → (List (List ℕ) → Result L LineFault) → List ℕ → Reading L
+text_read said text = if is_skipped text then Skipped else read_of (said (slice_split (λ b. b == 32) text))
+
+-- what a line of a schedule says
 abbrev pub line_read : Shape → List ℕ → Read
-line_read shape text = if is_skipped text then Skipped else read_of (said shape (slice_split (λ b. b == 32) text))
+line_read shape text = text_read (said shape) text
 
 -- ---- what is written is read, and what is read is spelled so
 
@@ -235,11 +245,11 @@ Says (Ok value) said = said ≡ Ok value
 Says (Err e) said = FailsAs e said
 
 -- the same, of a whole line
-abbrev pub Fails : LineFault → Read → Type 0
+abbrev pub Fails : {L : Type 0} → LineFault → Reading L → Type 0
 Fails fault.Memory read = Unit {0}
 Fails e read = read ≡ Refused e
 
-abbrev pub Gives : Result (Option Line) LineFault → Read → Type 0
+abbrev pub Gives : {L : Type 0} → Result (Option L) LineFault → Reading L → Type 0
 Gives (Ok None) read = read ≡ Skipped
 Gives (Ok (Some line)) read = read ≡ Found line
 Gives (Err e) read = Fails e read

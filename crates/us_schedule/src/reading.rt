@@ -1,7 +1,7 @@
 ghost use Rattle.std.specs.Prelude.{◌≡◌, ◌==◌, List, map, count_by, IfOk, IfSome};
 ghost use Rattle.std.specs.List.{slice_split};
 ghost use Rattle.us_base.specs.Shape.{IsShape};
-ghost use Rattle.us_schedule.specs.Lines.{Says, Gives, IsAllowed, hex, one, two, three, three_and_hex, said_by_one, said_by_two, said_by_three, said_by_four, said, line_read};
+ghost use Rattle.us_schedule.specs.Lines.{Says, Gives, IsAllowed, hex, in_range, one, two, three, three_and_hex, said_by_one, said_by_two, said_by_three, said_by_four, said, line_read};
 
 use crate::numbers::{actor_in, at_most, coord_in, counted, number_of, site_in};
 use crate::{Line, LineFault};
@@ -11,10 +11,10 @@ use us_base::{Limits, Shape};
 use us_kind::Bytes;
 
 /// The most bytes that a `bytes` line brings.
-const MOST_BYTES: usize = 65_536;
+pub const MOST_BYTES: usize = 65_536;
 
 /// The last clock that a line hands out.
-const LAST_CLOCK: u64 = Limits::CLOCK;
+pub const LAST_CLOCK: u64 = Limits::CLOCK;
 
 /// The most rounds of a `settle` line.
 const MOST_ROUNDS: u64 = Limits::ROUNDS;
@@ -43,13 +43,15 @@ pub fn read_line(alloc: Global, text: &[u8], shape: Shape) -> Result<Option<Line
     Ok(Some(line))
 }
 
-fn spaces_in(text: &[u8]) -> usize
+/// How many spaces the text has.
+pub fn spaces_in(text: &[u8]) -> usize
     ensures { result ≡ count_by (λ b. b == 32) text.now }
 {
     text.iter().filter(|byte| **byte == b' ').count()
 }
 
-fn words_of(alloc: Global, text: &[u8]) -> Result<Vec<&[u8]>, AllocError>
+/// What stands between the spaces.
+pub fn words_of(alloc: Global, text: &[u8]) -> Result<Vec<&[u8]>, AllocError>
     ensures { IfOk result (λ words. map (λ w. w.now) words.items ≡ slice_split (λ b. b == 32) text.now) }
 {
     text.split(|byte| *byte == b' ').collect(alloc)
@@ -135,7 +137,7 @@ fn line_of_four(
 
 fn open_line(shape: Shape, site: &[u8], coord: &[u8]) -> Result<Line, LineFault>
     requires { IsShape shape }
-    ensures { result ≡ two shape Line.Open site.now coord.now }
+    ensures { result ≡ two (in_range shape) Line.Open site.now coord.now }
 {
     let site = number_of(site)?;
     let coord = number_of(coord)?;
@@ -154,7 +156,7 @@ fn bytes_line(
     bytes: &[u8],
 ) -> Result<Line, LineFault>
     requires { IsShape shape }
-    ensures { Says result (three_and_hex shape Line.Bytes site.now coord.now session.now bytes.now) }
+    ensures { Says result (three_and_hex (in_range shape) Line.Bytes site.now coord.now session.now bytes.now) }
 {
     let site = number_of(site)?;
     let coord = number_of(coord)?;
@@ -174,7 +176,8 @@ fn bytes_line(
     })
 }
 
-fn bytes_of(alloc: Global, word: &[u8]) -> Result<Bytes, LineFault>
+/// The bytes that the word writes in hex.
+pub fn bytes_of(alloc: Global, word: &[u8]) -> Result<Bytes, LineFault>
     ensures { Says result (hex word.now) }
 {
     match hex::decode(alloc, word) {
@@ -186,7 +189,7 @@ fn bytes_of(alloc: Global, word: &[u8]) -> Result<Bytes, LineFault>
 
 fn close_line(shape: Shape, site: &[u8], coord: &[u8], session: &[u8]) -> Result<Line, LineFault>
     requires { IsShape shape }
-    ensures { result ≡ three shape Line.Close site.now coord.now session.now }
+    ensures { result ≡ three (in_range shape) Line.Close site.now coord.now session.now }
 {
     let site = number_of(site)?;
     let coord = number_of(coord)?;
@@ -200,7 +203,7 @@ fn close_line(shape: Shape, site: &[u8], coord: &[u8], session: &[u8]) -> Result
 
 fn tick_line(shape: Shape, site: &[u8], actor: &[u8], clock: &[u8]) -> Result<Line, LineFault>
     requires { IsShape shape }
-    ensures { result ≡ three shape Line.Tick site.now actor.now clock.now }
+    ensures { result ≡ three (in_range shape) Line.Tick site.now actor.now clock.now }
 {
     let site = number_of(site)?;
     let actor = number_of(actor)?;
@@ -213,7 +216,7 @@ fn tick_line(shape: Shape, site: &[u8], actor: &[u8], clock: &[u8]) -> Result<Li
 }
 
 fn deliver_line(shape: Shape, number: &[u8]) -> Result<Line, LineFault>
-    ensures { result ≡ one shape Line.Deliver number.now }
+    ensures { result ≡ one (in_range shape) Line.Deliver number.now }
 {
     Ok(Line::Deliver {
         number: counted(number_of(number)?)?,
@@ -222,7 +225,7 @@ fn deliver_line(shape: Shape, number: &[u8]) -> Result<Line, LineFault>
 
 fn flush_line(shape: Shape, from: &[u8], to: &[u8]) -> Result<Line, LineFault>
     requires { IsShape shape }
-    ensures { result ≡ two shape Line.Flush from.now to.now }
+    ensures { result ≡ two (in_range shape) Line.Flush from.now to.now }
 {
     let from = number_of(from)?;
     let to = number_of(to)?;
@@ -234,7 +237,7 @@ fn flush_line(shape: Shape, from: &[u8], to: &[u8]) -> Result<Line, LineFault>
 
 fn lead_line(shape: Shape, site: &[u8]) -> Result<Line, LineFault>
     requires { IsShape shape }
-    ensures { result ≡ one shape Line.Lead site.now }
+    ensures { result ≡ one (in_range shape) Line.Lead site.now }
 {
     Ok(Line::Lead {
         site: site_in(shape, number_of(site)?)?,
@@ -243,7 +246,7 @@ fn lead_line(shape: Shape, site: &[u8]) -> Result<Line, LineFault>
 
 fn forward_line(shape: Shape, site: &[u8], origin: &[u8]) -> Result<Line, LineFault>
     requires { IsShape shape }
-    ensures { result ≡ two shape Line.Forward site.now origin.now }
+    ensures { result ≡ two (in_range shape) Line.Forward site.now origin.now }
 {
     let site = number_of(site)?;
     let origin = number_of(origin)?;
@@ -257,7 +260,7 @@ fn forward_line(shape: Shape, site: &[u8], origin: &[u8]) -> Result<Line, LineFa
 
 fn crash_line(shape: Shape, site: &[u8]) -> Result<Line, LineFault>
     requires { IsShape shape }
-    ensures { result ≡ one shape Line.Crash site.now }
+    ensures { result ≡ one (in_range shape) Line.Crash site.now }
 {
     Ok(Line::Crash {
         site: site_in(shape, number_of(site)?)?,
@@ -265,7 +268,7 @@ fn crash_line(shape: Shape, site: &[u8]) -> Result<Line, LineFault>
 }
 
 fn settle_line(shape: Shape, clock: &[u8], rounds: &[u8]) -> Result<Line, LineFault>
-    ensures { result ≡ two shape Line.Settle clock.now rounds.now }
+    ensures { result ≡ two (in_range shape) Line.Settle clock.now rounds.now }
 {
     let clock = number_of(clock)?;
     let rounds = number_of(rounds)?;

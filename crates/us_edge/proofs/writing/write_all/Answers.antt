@@ -1,7 +1,7 @@
 use Rattle.std.proofs.Common.{arith, sym}
 use Rattle.std.proofs.lemmas.Bool.{eqb-true}
 use Rattle.std.proofs.lemmas.Result.{err_from_is_err_and}
-use Rattle.us_edge.proofs.Loops.{begins, goes_on, stops, ends}
+use Rattle.us_edge.proofs.Loops.{begins, goes_on, stops, ends, rose_later}
 use Rattle.us_edge.proofs.writing.write_all.Goals as goal
 
 pub loop-rest-init : goal.loop-rest-init
@@ -30,6 +30,6 @@ returns-in_err-taken g c =
     rw p.1 (record {
       ok = tt;
       err = stops (g.K.Sink.written c.args.sink.now) (g.K.Sink.written c.loop-rest.sink) (g.K.Sink.written c.write.new.self) c.args.bytes.now c.loop-rest.rest.now c.loop-rest.invariant.written c.in_err-taken.ensures.err;
-      cause = omega (arith, c.in_err-taken.ensures.cause, c.loop-rest.invariant.counts);
+      cause = rose_later _ _ _ c.loop-rest.invariant.counts c.in_err-taken.ensures.counts c.in_err-taken.ensures.cause;
       counts = omega (arith, c.in_err-taken.ensures.counts, c.loop-rest.invariant.counts);
     })

@@ -1,13 +1,8 @@
-//! The real outside: standard input and output. These tell nothing of what they carry.
-ghost use Rattle.std.specs.Prelude.{◌≡◌, ◌≤◌, None};
-ghost use Rattle.us_edge.specs.Scripts.{counted};
+ghost use Rattle.std.specs.Prelude.{◌≡◌, None};
 
-use std::alloc::{AllocError, Global};
-use std::env;
-use std::io::{ErrorKind, Read, Stdin, Stdout, Write};
+use std::io::{Read, Stdin, Stdout, Write};
 use std::marker::Model;
 use us_edge::{Failed, Sink, Source};
-use us_kind::Memory;
 
 /// Standard input, and how often it failed.
 #[derive(Drop)]
@@ -85,16 +80,5 @@ impl Sink for StdoutSink {
                 Err(Failed)
             }
         }
-    }
-}
-
-/// The words behind the program's name: none where a word isn't UTF-8, which is no form.
-pub fn words_of(rt: &HostRuntime) -> Result<Vec<String>, Memory> {
-    match env::args(rt) {
-        Ok(all) => Ok(all.skip(1).collect(rt.alloc())?),
-        Err(error) => match error.kind() {
-            ErrorKind::OutOfMemory => Err(Memory),
-            _ => Ok(Vec::new(rt.alloc())),
-        },
     }
 }
