@@ -1,0 +1,5 @@
+pub mod Same
+pub mod Quorums
+pub mod History
+pub mod Growth
+pub mod Logs

@@ -1,0 +1,3 @@
+//! Laws over every run of the written ballot log.
+#![tactic(auto)]
+pub fn nothing() {}
