@@ -1,5 +1,5 @@
 -- Sites, ballots and what a ballot log holds.
-use Rattle.std.specs.Prelude.{ℕ, zero, suc, ◌+◌, ◌-◌, ◌*◌, ◌%◌, List, [], ◌∷◌, ◌++◌, length, map, filter, drop, Bool, true, false, not, ◌&&◌, ◌||◌, ◌==◌, if◌then◌else◌, nat_lt, nat_le, Option, Some, None, replicate, slice_get}
+use Rattle.std.specs.Prelude.{ℕ, zero, suc, ◌+◌, ◌-◌, ◌*◌, ◌%◌, ◌≤◌, List, [], ◌∷◌, ◌++◌, length, map, filter, drop, Bool, true, false, not, ◌&&◌, ◌||◌, ◌==◌, if◌then◌else◌, nat_lt, nat_le, Option, Some, None, replicate, slice_get}
 use Rattle.std.specs.List.{list_any}
 use Rattle.us_ballot_model.specs.declared.log.Vow.{Vow}
 use Rattle.us_ballot_model.specs.declared.log.Role.{Role}
@@ -126,3 +126,21 @@ to_others c m = map (λ j. (j, m)) (others c)
 abbrev pub opening : {E : Type 0} → ℕ → ℕ → BallotLog E
 opening f s =
     record { f = f; site = s; ballot = 1; accepted = 1; chosen = []; tail = []; role = if s == 1 then Leads first_acks else Follows }
+
+-- what a message may hold: ballots up to the last, tails and pages of at most 8 entries
+abbrev pub IsMessage : {E : Type 0} → BallotMessage E → Type 0
+IsMessage (NewBallot b) = b ≤ LAST
+IsMessage (Promise b accepted base tail) = length tail ≤ WINDOW
+IsMessage (NewState b base tail) = (b ≤ LAST) × (length tail ≤ WINDOW)
+IsMessage (Accept b slot entry) = Unit {0}
+IsMessage (Accepted b n) = Unit {0}
+IsMessage (CatchUp n) = Unit {0}
+IsMessage (Learn first es) = length es ≤ WINDOW
+
+-- a log that the calls keep: one of 2f + 1 sites of which f may be lost, with a ballot up to the last and a tail of at most 8
+pub record IsLog {E : Type 0} (c : BallotLog E) : Type 0 where
+  pub few_sites : c.f ≤ 4
+  pub first_site : 1 ≤ c.site
+  pub last_site : c.site ≤ 2 * c.f + 1
+  pub ballot : c.ballot ≤ LAST
+  pub tail : length c.tail ≤ WINDOW

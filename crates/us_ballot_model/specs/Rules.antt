@@ -42,13 +42,13 @@ advanced c k =
 abbrev pub advance_by : {E : Type 0} → BallotLog E → ℕ → Stepped E
 advance_by c k = if nat_lt 0 k then advanced c k else dropped c
 
-abbrev pub advance_as : {E : Type 0} → BallotLog E → Role E → Stepped E
-advance_as c Follows = dropped c
-advance_as c (Collects vows) = dropped c
-advance_as c (Leads acks) = advance_by c (ready c acks)
+abbrev pub ready_as : {E : Type 0} → BallotLog E → Role E → ℕ
+ready_as c Follows = 0
+ready_as c (Collects vows) = 0
+ready_as c (Leads acks) = ready c acks
 
 unfoldable pub advance : {E : Type 0} → BallotLog E → Stepped E
-advance c = advance_as c c.role
+advance c = advance_by c (ready_as c c.role)
 
 -- START, with f + 1 promises: the best one's entries behind what is chosen here are the tail of the ballot
 abbrev pub led : {E : Type 0} → BallotLog E → Vow E → BallotLog E
@@ -61,17 +61,22 @@ begin c = before (to_others c (NewState c.ballot (count c) c.tail)) [] (advance 
 abbrev pub start_by : {E : Type 0} → BallotLog E → Vow E → Stepped E
 start_by c v = if nat_lt (count c) v.base then sending c ((v.site, CatchUp (count c)) ∷ []) else begin (led c v)
 
-abbrev pub start_from : {E : Type 0} → BallotLog E → List (Vow E) → Stepped E
-start_from c [] = dropped c
-start_from c (v ∷ vs) = start_by c (best v vs)
+abbrev pub best_of : {E : Type 0} → List (Vow E) → Option (Vow E)
+best_of [] = None
+best_of (v ∷ vs) = Some (best v vs)
 
-abbrev pub start_as : {E : Type 0} → BallotLog E → Role E → Stepped E
-start_as c Follows = dropped c
-start_as c (Collects vows) = if nat_lt c.f (length vows) then start_from c vows else dropped c
-start_as c (Leads acks) = dropped c
+-- the best promise, where a collector has f + 1
+abbrev pub due : {E : Type 0} → BallotLog E → Role E → Option (Vow E)
+due c Follows = None
+due c (Collects vows) = if nat_lt c.f (length vows) then best_of vows else None
+due c (Leads acks) = None
+
+abbrev pub start_with : {E : Type 0} → BallotLog E → Option (Vow E) → Stepped E
+start_with c None = dropped c
+start_with c (Some v) = start_by c v
 
 unfoldable pub start : {E : Type 0} → BallotLog E → Stepped E
-start c = start_as c c.role
+start c = start_with c (due c c.role)
 
 -- LEAD: the next ballot of its own
 abbrev pub collecting : {E : Type 0} → BallotLog E → ℕ → BallotLog E
