@@ -1,3 +1,4 @@
 pub mod Sending
 pub mod Onto
 pub mod Ready
+pub mod Vows

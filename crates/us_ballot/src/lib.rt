@@ -2,7 +2,9 @@
 #![tactic(auto)]
 
 mod advance;
+mod collect;
 mod copies;
+mod follow;
 mod numbers;
 mod sends;
 mod start;

@@ -1,7 +1,7 @@
 //! Numbers of sites, slots and ballots.
 ghost use Rattle.std.specs.Prelude.{◌≡◌, ◌≤◌, ◌+◌, ◌*◌, ◌<◌, ◌^◌, IfOk, length};
-ghost use Rattle.us_ballot_model.specs.Ballots.{held, at_least, backers, next_ballot, owner, LAST};
-ghost use Rattle.us_ballot_model.specs.Rules.{risen};
+ghost use Rattle.us_ballot_model.specs.Ballots.{held, ack_of, at_least, backers, next_ballot, owner, LAST};
+ghost use Rattle.us_ballot_model.specs.Rules.{risen, raised};
 
 use us_ballot_model::BallotLog;
 use us_kind::{Memory, Slot};
@@ -72,4 +72,22 @@ pub fn risen(ack: Option<u64>, length: u64) -> u64
         None => length,
         Some(m) => m.max(length),
     }
+}
+
+/// What the site has acknowledged, if anything.
+pub fn ack_of(acks: &[Option<u64>; 9], site: u8) -> Option<u64>
+    requires first { 1 ≤ site }
+    requires last { site ≤ 9 }
+    ensures { result ≡ ack_of acks.now site }
+{
+    acks[usize::from(site) - 1]
+}
+
+/// The site's acknowledgement rises.
+pub fn raise(acks: &mut [Option<u64>; 9], site: u8, length: u64)
+    requires first { 1 ≤ site }
+    requires last { site ≤ 9 }
+    ensures { acks.new ≡ raised acks.old site length }
+{
+    acks[usize::from(site) - 1] = Some(risen(ack_of(acks, site), length));
 }

@@ -121,3 +121,17 @@ fn start_by<E: Slot>(alloc: Global, log: &mut BallotLog<E>, vow: Vow<E>, out: &m
     log.role = Role::Leads { acks: [None; 9] };
     begin(alloc, log, out)
 }
+
+/// A collector with f + 1 promises leads.
+#[tactic(auto, unfolding(us_ballot_model::specs::Rules::start), using(crate::proofs::Onto::onto_dropped))]
+pub fn start<E: Slot>(alloc: Global, log: &mut BallotLog<E>, out: &mut BallotOut<E>) -> Result<(), Memory>
+    requires { IsLog log.old }
+    ensures kept { IsLog log.new }
+    ensures log { OnOk result (log.new ≡ (start log.old).log) }
+    ensures out { OnOk result (out.new ≡ onto out.old (start log.old)) }
+{
+    match due(alloc, log)? {
+        None => Ok(()),
+        Some(vow) => start_by(alloc, log, vow, out),
+    }
+}

@@ -137,10 +137,21 @@ IsMessage (Accepted b n) = Unit {0}
 IsMessage (CatchUp n) = Unit {0}
 IsMessage (Learn first es) = length es ≤ WINDOW
 
--- a log that the calls keep: one of 2f + 1 sites of which f may be lost, with a ballot up to the last and a tail of at most 8
+-- promises with tails of at most 8 entries
+abbrev pub AreVows : {E : Type 0} → List (Vow E) → Type 0
+AreVows [] = Unit {0}
+AreVows (v ∷ vs) = (length v.tail ≤ WINDOW) × AreVows vs
+
+abbrev pub IsRole : {E : Type 0} → Role E → Type 0
+IsRole Follows = Unit {0}
+IsRole (Collects vows) = AreVows vows
+IsRole (Leads acks) = Unit {0}
+
+-- a log that the calls keep: one of 2f + 1 sites of which f may be lost, with a ballot up to the last and tails of at most 8
 pub record IsLog {E : Type 0} (c : BallotLog E) : Type 0 where
   pub few_sites : c.f ≤ 4
   pub first_site : 1 ≤ c.site
   pub last_site : c.site ≤ 2 * c.f + 1
   pub ballot : c.ballot ≤ LAST
   pub tail : length c.tail ≤ WINDOW
+  pub role : IsRole c.role

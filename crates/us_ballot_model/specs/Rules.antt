@@ -105,16 +105,21 @@ new_ballot c from b =
 abbrev pub may_record : {E : Type 0} → BallotLog E → List (Vow E) → ℕ → ℕ → Bool
 may_record c vows from b = (b == c.ballot) && (nat_le (length vows) c.f && not (vowed vows from))
 
-abbrev pub recorded : {E : Type 0} → BallotLog E → List (Vow E) → Vow E → BallotLog E
-recorded c vows v = record c { role = Collects (vows ++ v ∷ []) }
+abbrev pub may_promise : {E : Type 0} → BallotLog E → ℕ → ℕ → Role E → Bool
+may_promise c from b Follows = false
+may_promise c from b (Collects vows) = may_record c vows from b
+may_promise c from b (Leads acks) = false
 
-abbrev pub promise_as : {E : Type 0} → BallotLog E → ℕ → Vow E → Role E → Stepped E
-promise_as c b v Follows = dropped c
-promise_as c b v (Collects vows) = if may_record c vows v.site b then start (recorded c vows v) else dropped c
-promise_as c b v (Leads acks) = dropped c
+abbrev pub with_vow : {E : Type 0} → Role E → Vow E → Role E
+with_vow Follows v = Follows
+with_vow (Collects vows) v = Collects (vows ++ v ∷ [])
+with_vow (Leads acks) v = Leads acks
+
+abbrev pub recorded : {E : Type 0} → BallotLog E → Vow E → BallotLog E
+recorded c v = record c { role = with_vow c.role v }
 
 unfoldable pub promise : {E : Type 0} → BallotLog E → ℕ → Vow E → Stepped E
-promise c b v = promise_as c b v c.role
+promise c b v = if may_promise c v.site b c.role then start (recorded c v) else dropped c
 
 -- NEWSTATE: the entries behind what is chosen here are the tail of the ballot, unless the tail is of it already
 abbrev pub restated : {E : Type 0} → BallotLog E → ℕ → ℕ → List E → BallotLog E
@@ -152,16 +157,22 @@ abbrev pub risen : Option ℕ → ℕ → ℕ
 risen None n = n
 risen (Some m) n = max m n
 
-abbrev pub heard : {E : Type 0} → BallotLog E → List (Option ℕ) → ℕ → ℕ → BallotLog E
-heard c acks from n = record c { role = Leads (slice_set acks (from - 1) (Some (risen (ack_of acks from) n))) }
+abbrev pub raised : List (Option ℕ) → ℕ → ℕ → List (Option ℕ)
+raised acks from n = slice_set acks (from - 1) (Some (risen (ack_of acks from) n))
 
-abbrev pub accepted_as : {E : Type 0} → BallotLog E → ℕ → ℕ → ℕ → Role E → Stepped E
-accepted_as c from b n Follows = dropped c
-accepted_as c from b n (Collects vows) = dropped c
-accepted_as c from b n (Leads acks) = if (b == c.ballot) && nat_le n (held c) then advance (heard c acks from n) else dropped c
+abbrev pub with_ack : {E : Type 0} → Role E → ℕ → ℕ → Role E
+with_ack Follows from n = Follows
+with_ack (Collects vows) from n = Collects vows
+with_ack (Leads acks) from n = Leads (raised acks from n)
+
+abbrev pub heard : {E : Type 0} → BallotLog E → ℕ → ℕ → BallotLog E
+heard c from n = record c { role = with_ack c.role from n }
+
+abbrev pub may_hear : {E : Type 0} → BallotLog E → ℕ → ℕ → Bool
+may_hear c b n = leads c.role && ((b == c.ballot) && nat_le n (held c))
 
 unfoldable pub accepted : {E : Type 0} → BallotLog E → ℕ → ℕ → ℕ → Stepped E
-accepted c from b n = accepted_as c from b n c.role
+accepted c from b n = if may_hear c b n then advance (heard c from n) else dropped c
 
 -- CATCHUP: the next chosen entries
 unfoldable pub catch_up : {E : Type 0} → BallotLog E → ℕ → ℕ → Stepped E
