@@ -2,9 +2,11 @@
 #![tactic(auto)]
 
 mod advance;
+mod append;
 mod collect;
 mod copies;
 mod follow;
+mod learn;
 mod numbers;
 mod sends;
 mod start;
