@@ -8,7 +8,7 @@ use Rattle.us_ballot_model.specs.Ballots.{sites_from}
 abbrev pub rest_of : {M : Type 0} → ℕ → M → ℕ → ℕ → List (ℕ × M)
 rest_of s m j n = map (λ i. (i, m)) (filter (λ i. not (i == s)) (sites_from j (n - j)))
 
-sites_turn : (j n : ℕ) → j < n → sites_from j (n - j) ≡ j ∷ sites_from (j + 1) (n - (j + 1))
+pub sites_turn : (j n : ℕ) → j < n → sites_from j (n - j) ≡ j ∷ sites_from (j + 1) (n - (j + 1))
 sites_turn j n h = let e : n - j ≡ suc (n - (j + 1)) = omega arith in ap (sites_from j) e
 
 -- the own site gets none

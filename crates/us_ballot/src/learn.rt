@@ -67,7 +67,7 @@ pub fn accepted<E: Slot>(
 }
 
 /// A site asks for the chosen entries behind those that it has.
-#[tactic(auto, unfolding(us_ballot_model::specs::Rules::catch_up), using(crate::proofs::Onto::onto_dropped, crate::proofs::Onto::onto_sending))]
+#[tactic(auto, unfolding(us_ballot_model::specs::Rules::catch_up), using(crate::proofs::Onto::onto_dropped, crate::proofs::Onto::onto_sending, crate::proofs::Dropped::catch_up_log))]
 pub fn catch_up<E: Slot>(
     alloc: Global,
     log: &BallotLog<E>,
@@ -75,7 +75,8 @@ pub fn catch_up<E: Slot>(
     length: u64,
     out: &mut BallotOut<E>,
 ) -> Result<(), Memory>
-    ensures { OnOk result (out.new ≡ onto out.old (catch_up log.now from length)) }
+    ensures log { (catch_up log.now from length).log ≡ log.now }
+    ensures out { OnOk result (out.new ≡ onto out.old (catch_up log.now from length)) }
 {
     let chosen = log.chosen.as_slice();
     if length >= chosen.len() as u64 {

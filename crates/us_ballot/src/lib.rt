@@ -3,10 +3,15 @@
 
 mod advance;
 mod append;
+mod ballots;
 mod collect;
 mod copies;
 mod follow;
 mod learn;
 mod numbers;
+mod repeat;
 mod sends;
 mod start;
+
+pub use ballots::Ballots;
+pub use us_ballot_model::{Appended, BallotMessage, BallotOut};
