@@ -6,3 +6,4 @@ pub mod Logs
 pub mod Facts
 pub mod Counting
 pub mod Steps
+pub mod Moves

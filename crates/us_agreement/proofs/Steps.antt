@@ -66,7 +66,7 @@ module _ {E : Type 0} (f s : ℕ) where
   pub nothing_keeps : (c : BallotLog E) (Given : Past E → Type 0) → Keeps f s c Given c []
   nothing_keeps c Given = by_step c Given c [] (λ p hist g given. record { past = p; owes = owes_nothing f p s; history = hist; site = g; sends = λ m i. absurd i })
 
-module _ {E : Type 0} (f : ℕ) (p : Past E) (hist : HistoryOk f p) (s : ℕ) (here : In s (sites f)) (c : BallotLog E) (g : SiteOk f p s c) where
+module _ {E : Type 0} (f s : ℕ) (here : In s (sites f)) where
   -- SENDS: to every other site
   pub to_others_ok : (p' : Past E) (d : BallotLog E) → d.f ≡ f → d.site ≡ s → (m : BallotMessage E) → MessageOk f p' s m → (x : ℕ × BallotMessage E) → In x (to_others d m) → SentOk f p' (record { from = s; to = x.0; message = x.1 })
   to_others_ok p' d ef es m ok x i =
@@ -83,6 +83,7 @@ module _ {E : Type 0} (f : ℕ) (p : Past E) (hist : HistoryOk f p) (s : ℕ) (h
       subst P e (record { here = here; apart = λ q. apart (sym q); message = ok })
   to_one_ok p' to m apart ok x (inr n) = absurd n
 
+module _ {E : Type 0} (f : ℕ) (p : Past E) (hist : HistoryOk f p) (s : ℕ) (here : In s (sites f)) (c : BallotLog E) (g : SiteOk f p s c) where
   -- a site that sends alone
   pub sends_alone : (ms : List (ℕ × BallotMessage E)) → ((m : ℕ × BallotMessage E) → In m ms → SentOk f p (record { from = s; to = m.0; message = m.1 })) → Step f p s c ms
   sends_alone ms ok = record { past = p; owes = owes_nothing f p s; history = hist; site = g; sends = ok }
