@@ -1,8 +1,8 @@
 -- How many sites pass.
 use Rattle.std.proofs.Common.{◌≡◌, ◌⊎◌, inl, inr, ⊎_elim, ℕ, zero, suc, ◌+◌, ◌-◌, ◌*◌, ◌<◌, ◌≤◌, List, [], ◌∷◌, length, filter, Bool, true, false, Option, Some, None, refl, sym, ap, ◌∙◌, subst, arith, true≢false}
-use Rattle.std.specs.Prelude.{◌==◌, ◌||◌, slice_get}
+use Rattle.std.specs.Prelude.{◌==◌, ◌||◌, ◌&&◌, nat_lt, slice_get}
 use Rattle.std.specs.List.{list_any}
-use Rattle.std.proofs.lemmas.Bool.{cases_eq, eq-eqb, eqb-true, or_cases}
+use Rattle.std.proofs.lemmas.Bool.{cases_eq, eq-eqb, eqb-true, or_cases, and_parts, lt-ltb}
 use Rattle.us_kind.specs.Words.{In}
 use Rattle.us_ballot_model.specs.declared.log.Vow.{Vow}
 use Rattle.us_ballot_model.specs.Ballots.{sites_from, sites, vowed, at_least, flat, backers, ack_of}
@@ -43,6 +43,9 @@ length_sites i (suc k) = ap suc (length_sites (i + 1) k)
 -- f + 1 of the sites are more than half
 pub majority_of : (f n : ℕ) → f < n → length (sites f) < 2 * n
 majority_of f n h = let e = length_sites 1 (2 * f + 1) in omega arith
+
+and_true : (a b : Bool) → a ≡ true → b ≡ true → (a && b) ≡ true
+and_true a b e g = rw e g
 
 -- PROMISES of different sites
 vowed_not : {E : Type 0} (vs : List (Vow E)) (z : ℕ) → ((u : Vow E) → In u vs → u.site ≡ z → ⊥) → vowed vs z ≡ false
@@ -96,19 +99,30 @@ placed n q (a ∷ as') i (suc k) h = on (at_least n a) refl (placed n q as' (i +
     on true e l = rw (e, first e) (omega arith)
     on false e l = rw e (omega arith)
 
+-- site z has acknowledged n
+abbrev pub acked : ℕ → List (Option ℕ) → ℕ → Bool
+acked n acks z = nat_lt 0 z && at_least n (ack_of acks z)
+
 -- the sites that have acknowledged n, and s
 abbrev pub has : ℕ → ℕ → List (Option ℕ) → ℕ → Bool
-has s n acks z = (z == s) || at_least n (ack_of acks z)
+has s n acks z = (z == s) || acked n acks z
 
 pub backers_count : (f s n : ℕ) (acks : List (Option ℕ)) → In s (sites f) → ((j : ℕ) → at_least n (flat (slice_get acks j)) ≡ true → In (j + 1) (sites f) × (j + 1 ≡ s → ⊥)) → f ≤ backers acks n → f < count (has s n acks) (sites f)
 backers_count f s n acks here h le =
-    let others' = placed n (λ z. at_least n (ack_of acks z)) acks 1 (2 * f + 1) (λ j t. let x = site_within 1 (2 * f + 1) (j + 1) (h j t).0 in let y = x.1 in (omega arith, shifted j t)) in
-    let more = count_more (λ z. at_least n (ack_of acks z)) (has s n acks) (sites f) s (λ z e. or_right (z == s) (at_least n (ack_of acks z)) e) here (or_left (s == s) (at_least n (ack_of acks s)) (eq-eqb s s refl)) (own (at_least n (ack_of acks s)) refl) in
+    let others' = placed n (acked n acks) acks 1 (2 * f + 1) (λ j t. let x = site_within 1 (2 * f + 1) (j + 1) (h j t).0 in let y = x.1 in (omega arith, shifted j t)) in
+    let more = count_more (acked n acks) (has s n acks) (sites f) s (λ z e. or_right (z == s) (acked n acks z) e) here (or_left (s == s) (acked n acks s) (eq-eqb s s refl)) (own (acked n acks s) refl) in
     omega arith
   where
-    shifted : (j : ℕ) → at_least n (flat (slice_get acks j)) ≡ true → at_least n (ack_of acks (1 + j)) ≡ true
-    shifted j t = let e : j ≡ 1 + j - 1 = omega arith in subst (λ z. at_least n (flat (slice_get acks z)) ≡ true) e t
+    shifted : (j : ℕ) → at_least n (flat (slice_get acks j)) ≡ true → acked n acks (1 + j) ≡ true
+    shifted j t =
+        let e : j ≡ 1 + j - 1 = omega arith in
+        let some : 0 < 1 + j = omega arith in
+        and_true (nat_lt 0 (1 + j)) _ (lt-ltb 0 (1 + j) some) (subst (λ z. at_least n (flat (slice_get acks z)) ≡ true) e t)
 
-    own : (b : Bool) → at_least n (ack_of acks s) ≡ b → at_least n (ack_of acks s) ≡ false
-    own true e = let x = h (s - 1) e in let w = site_within 1 (2 * f + 1) s here in let y = w.0 in let same : s - 1 + 1 ≡ s = omega arith in absurd (x.1 same)
+    own : (b : Bool) → acked n acks s ≡ b → acked n acks s ≡ false
+    own true e =
+        let x : In (s - 1 + 1) (sites f) × (s - 1 + 1 ≡ s → ⊥) = h (s - 1) (and_parts (nat_lt 0 s) (at_least n (ack_of acks s)) e).1 in
+        let w = site_within 1 (2 * f + 1) s here in
+        let y = w.0 in
+        let same : s - 1 + 1 ≡ s = omega arith in absurd (x.1 same)
     own false e = e

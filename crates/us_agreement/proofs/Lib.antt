@@ -7,3 +7,5 @@ pub mod Facts
 pub mod Counting
 pub mod Steps
 pub mod Moves
+pub mod Growing
+pub mod Starting

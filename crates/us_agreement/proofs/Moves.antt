@@ -24,7 +24,7 @@ use Rattle.us_agreement.proofs.Facts.{Past, whole, LogIs, Chosen, AckIs, VowOk, 
 use Rattle.us_agreement.proofs.Steps.{Step, to_others_ok, to_one_ok}
 
 -- a list that begins with l
-get_append : {E : Type 0} (c l : List E) (k : ℕ) → length c ≤ k → slice_get (c ++ l) k ≡ slice_get l (k - length c)
+pub get_append : {E : Type 0} (c l : List E) (k : ℕ) → length c ≤ k → slice_get (c ++ l) k ≡ slice_get l (k - length c)
 get_append c l k h =
     let e : length c + (k - length c) ≡ k = omega arith in
     subst (λ i. slice_get (c ++ l) i ≡ slice_get l (k - length c)) e (get_back c l (k - length c))
@@ -135,10 +135,10 @@ module _ {E : Type 0} (dec : IsDecided E) (f : ℕ) (p : Past E) (hist : History
           ap (λ l. c.chosen ++ l) (ap (λ k. drop k h.log) (sym e) ∙ sym (drop-drop (length c.chosen - base) base h.log) ∙ ap (drop (length c.chosen - base)) h.is)
 
   -- ACKNOWLEDGE: the length of the whole log is told
-  pub told_past : ℕ → Past E
+  unfoldable pub told_past : ℕ → Past E
   told_past n = record p { told = Ack c.ballot s n ∷ p.told }
 
-  told_owes : (n : ℕ) → Owes f p (told_past n) s
+  pub told_owes : (n : ℕ) → Owes f p (told_past n) s
   unfolding told_past
   told_owes n = record {
     grows = record { starts = λ h i. i; longer = λ b. omega arith; same = λ b. same_refl _ (p.logs b); choices = λ c i. i };
@@ -150,7 +150,7 @@ module _ {E : Type 0} (dec : IsDecided E) (f : ℕ) (p : Past E) (hist : History
     same_up = λ z a. refl;
   }
 
-  told_history : (n : ℕ) → HistoryOk f (told_past n)
+  pub told_history : (n : ℕ) → HistoryOk f (told_past n)
   unfolding told_past
   told_history n = record {
     starts = starts_kept f p (told_past n) s (told_owes n) hist;

@@ -89,7 +89,7 @@ module _ {E : Type 0} (f : ℕ) (p : Past E) (hist : HistoryOk f p) (s : ℕ) (h
   sends_alone ms ok = record { past = p; owes = owes_nothing f p s; history = hist; site = g; sends = ok }
 
   -- A GREATER BALLOT: the site has come up to it
-  pub raised_past : ℕ → Past E
+  unfoldable pub raised_past : ℕ → Past E
   raised_past b = record p { up = put p.up s b }
 
   raised_up : (b : ℕ) → c.ballot ≤ b → (z : ℕ) → p.up z ≤ put p.up s b z
