@@ -9,3 +9,5 @@ pub mod Steps
 pub mod Moves
 pub mod Growing
 pub mod Starting
+pub mod Owners
+pub mod Kept

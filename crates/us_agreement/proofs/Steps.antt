@@ -17,12 +17,12 @@ use Rattle.us_agreement.proofs.History.{Acknowledgement, Ack, Start, Choice, IsS
 use Rattle.us_agreement.proofs.Growth.{LogFacts, AckFacts}
 use Rattle.us_agreement.proofs.Facts.{Past, whole, LogIs, Chosen, AckIs, VowOk, MessageOk, SentOk, RoleOk, SiteOk, HistoryOk, Facts, Holds, Owes, put_same, put_other, at_each, put_put, net_step, owes_nothing}
 
-in_mapped : {X Y : Type 0} (f : X → Y) (y : Y) (xs : List X) → In y (map f xs) → (x : X) × In x xs × (f x ≡ y)
+pub in_mapped : {X Y : Type 0} (f : X → Y) (y : Y) (xs : List X) → In y (map f xs) → (x : X) × In x xs × (f x ≡ y)
 in_mapped f y [] i = absurd i
 in_mapped f y (x ∷ xs) (inl e) = (x, inl refl, e)
 in_mapped f y (x ∷ xs) (inr i) = let r = in_mapped f y xs i in (r.0, inr r.1, r.2)
 
-not_equal : (a b : ℕ) → not (a == b) ≡ true → a ≡ b → ⊥
+pub not_equal : (a b : ℕ) → not (a == b) ≡ true → a ≡ b → ⊥
 not_equal a b e h = let k : not (a == b) ≡ not true = ap not (eq-eqb a b h) in absurd (cc)
 
 sent_both : {E : Type 0} (s : ℕ) (xs ys : List (ℕ × BallotMessage E)) → sent_by s (xs ++ ys) ≡ sent_by s xs ++ sent_by s ys
@@ -37,15 +37,15 @@ pub record Step {E : Type 0} (f : ℕ) (p : Past E) (s : ℕ) (c' : BallotLog E)
   pub site : SiteOk f past s c'
   pub sends : (m : ℕ × BallotMessage E) → In m ms → SentOk f past (record { from = s; to = m.0; message = m.1 })
 
--- a step of site s from c, given what is known of the history, keeps the facts
-abbrev pub Keeps : {E : Type 0} → ℕ → ℕ → BallotLog E → (Past E → Type 0) → BallotLog E → List (ℕ × BallotMessage E) → Type 0
-Keeps {E} f s c Given c' ms =
-    (at : ℕ → BallotLog E) (sent : List (Sent E)) → at s ≡ c → (h : Holds f at sent) → Given h.past → Holds f (put at s c') (sent ++ sent_by s ms)
+-- a step of site s from c that leaves c' and sends these messages keeps the facts, where the packets xs were sent before
+abbrev pub Keeps : {E : Type 0} → ℕ → ℕ → List (Sent E) → BallotLog E → BallotLog E → List (ℕ × BallotMessage E) → Type 0
+Keeps {E} f s xs c c' ms =
+    (at : ℕ → BallotLog E) (sent : List (Sent E)) → at s ≡ c → Holds f at sent → ((x : Sent E) → In x xs → In x sent) → Holds f (put at s c') (sent ++ sent_by s ms)
 
-module _ {E : Type 0} (f s : ℕ) where
-  pub by_step : (c : BallotLog E) (Given : Past E → Type 0) (c' : BallotLog E) (ms : List (ℕ × BallotMessage E)) → ((p : Past E) → HistoryOk f p → SiteOk f p s c → Given p → Step f p s c' ms) → Keeps f s c Given c' ms
-  by_step c Given c' ms step at sent e h given =
-      let r = step h.past h.facts.history (subst (SiteOk f h.past s) e (h.facts.site s)) given in
+module _ {E : Type 0} (f s : ℕ) (xs : List (Sent E)) where
+  pub by_step : (c c' : BallotLog E) (ms : List (ℕ × BallotMessage E)) → ((p : Past E) → HistoryOk f p → SiteOk f p s c → ((x : Sent E) → In x xs → SentOk f p x) → Step f p s c' ms) → Keeps f s xs c c' ms
+  by_step c c' ms step at sent e h given =
+      let r = step h.past h.facts.history (subst (SiteOk f h.past s) e (h.facts.site s)) (λ x i. h.facts.sent x (given x i)) in
       record {
         past = r.past;
         facts = net_step f h.past r.past s r.owes at sent (sent_by s ms) c' h.facts r.history r.site
@@ -53,18 +53,18 @@ module _ {E : Type 0} (f s : ℕ) where
       }
 
   -- one after another
-  pub and_then : (c c1 c2 : BallotLog E) (Given : Past E → Type 0) (ms1 ms2 : List (ℕ × BallotMessage E)) → Keeps f s c Given c1 ms1 → Keeps f s c1 (λ p. Unit {0}) c2 ms2 → Keeps f s c Given c2 (ms1 ++ ms2)
-  and_then c c1 c2 Given ms1 ms2 first second at sent e h given =
+  pub and_then : (c c1 c2 : BallotLog E) (ms1 ms2 : List (ℕ × BallotMessage E)) → Keeps f s xs c c1 ms1 → Keeps f s xs c1 c2 ms2 → Keeps f s xs c c2 (ms1 ++ ms2)
+  and_then c c1 c2 ms1 ms2 first second at sent e h given =
       let h1 = first at sent e h given in
-      let h2 = second (put at s c1) (sent ++ sent_by s ms1) (put_same at s c1) h1 tt in
+      let h2 = second (put at s c1) (sent ++ sent_by s ms1) (put_same at s c1) h1 (λ x i. in_front x sent (sent_by s ms1) (given x i)) in
       let joined : (sent ++ sent_by s ms1) ++ sent_by s ms2 ≡ sent ++ sent_by s (ms1 ++ ms2) = append_assoc sent (sent_by s ms1) (sent_by s ms2) ∙ ap (λ l. sent ++ l) (sym (sent_both s ms1 ms2)) in
       let P : List (Sent E) → Type 0 = λ l. Holds f (put at s c2) l in
       let Q : (ℕ → BallotLog E) → Type 0 = λ g. Holds f g ((sent ++ sent_by s ms1) ++ sent_by s ms2) in
       subst P joined (subst Q (put_put at s c1 c2) h2)
 
   -- nothing happens
-  pub nothing_keeps : (c : BallotLog E) (Given : Past E → Type 0) → Keeps f s c Given c []
-  nothing_keeps c Given = by_step c Given c [] (λ p hist g given. record { past = p; owes = owes_nothing f p s; history = hist; site = g; sends = λ m i. absurd i })
+  pub nothing_keeps : (c : BallotLog E) → Keeps f s xs c c []
+  nothing_keeps c = by_step c c [] (λ p hist g given. record { past = p; owes = owes_nothing f p s; history = hist; site = g; sends = λ m i. absurd i })
 
 module _ {E : Type 0} (f s : ℕ) (here : In s (sites f)) where
   -- SENDS: to every other site
