@@ -8,14 +8,14 @@ use Rattle.std.proofs.lemmas.List.{take-append-drop}
 use Rattle.std.proofs.Math.Seq.{drop-append_seam}
 use Rattle.std.proofs.lemmas.Bool.{cases_eq, cases_lt, cond_both, eqb-true, eq-eqb, ltb-true, ltb-false, leb-true, and_parts}
 use Rattle.us_kind.specs.Words.{In}
-use Rattle.us_kind.proofs.ListLemmas.{in_either, in_front, in_push, in_filter}
+use Rattle.us_kind.proofs.ListLemmas.{in_either, in_front, in_push, in_filter, in_map}
 use Rattle.us_ballot_model.specs.declared.log.Vow.{Vow}
 use Rattle.us_ballot_model.specs.declared.log.Role.{Role}
 use Rattle.us_ballot_model.specs.declared.log.Role.TheVariants.{Follows, Collects, Leads}
 use Rattle.us_ballot_model.specs.declared.log.BallotLog.{BallotLog}
 use Rattle.us_ballot_model.specs.declared.message.BallotMessage.{BallotMessage}
 use Rattle.us_ballot_model.specs.declared.message.BallotMessage.TheVariants.{NewBallot, Promise, NewState, Accept, Accepted, CatchUp, Learn}
-use Rattle.us_ballot_model.specs.Ballots.{LAST, WINDOW, sites, owner, next_ballot, others, to_others, count, held, vowed, own_vow, best, backers, ack_of, follows, leads, most}
+use Rattle.us_ballot_model.specs.Ballots.{LAST, WINDOW, sites, owner, next_ballot, others, to_others, count, held, vowed, own_vow, best, backers, ack_of, flat, follows, leads, most}
 use Rattle.us_ballot_model.specs.Rules.{Stepped, sending, dropped, before, ready, ready_as, advanced, advance_by, advance, led, begin, start_by, best_of, due, start_with, start, collecting, lead_in, lead, may_follow, following, new_ballot, may_record, may_promise, with_vow, recorded, promise, restated, acknowledging, state_in, new_state, may_accept, joined, accept_in, tell_accepted, accept, risen, raised, with_ack, heard, may_hear, accepted, catch_up, trimmed, learnt, known, may_learn, learn_from, learn, take_message, missing, accepts, accepts_after, repeated, repeats, tick, may_append, put_in, append}
 use Rattle.us_ballot_model.specs.Worlds.{Sent, put, sent_by}
 use Rattle.us_agreement.proofs.Same.{IsDecided, Same, get_drop, get_front}
@@ -240,3 +240,137 @@ module _ {E : Type 0} (dec : IsDecided E) (f s : ℕ) (here : In s (sites f)) (x
         subst (λ y. Does f s xs c (tell_accepted (accept_in c slot e) from y slot)) (sym at)
           (accept_for c from slot e (is_follows c.role k.0) (sym of' ∙ at) (λ p given. subst (λ y. AcceptOk p y slot e) at (told p given)) apart))
       (λ t. nothing_keeps f s xs c)
+
+  -- ACCEPTED
+  heard_role : (c : BallotLog E) (p : Past E) → SiteOk f p s c → (from n : ℕ) → In (Ack c.ballot from n) p.told → In from (sites f) → (from ≡ s → ⊥) → (r : Role E) → RoleOk f p s c r → RoleOk f p s (record c { role = with_ack r from n }) (with_ack r from n)
+  heard_role c p g from n told from_site apart Follows h = tt
+  heard_role c p g from n told from_site apart (Collects vows) h = record { owns = h.owns; new = h.new; vows = h.vows; apart = h.apart; own = h.own }
+  heard_role c p g from n told from_site apart (Leads acks) h = record { owns = h.owns; same = h.same; leading = h.leading; acks = ok }
+    where
+      first : from - 1 + 1 ≡ from
+      first = let w = site_within 1 (2 * f + 1) from from_site in let y = w.0 in omega arith
+
+      mine : (m : ℕ) → n ≡ m → In (Ack c.ballot (from - 1 + 1) m) p.told × In (from - 1 + 1) (sites f) × (from - 1 + 1 ≡ s → ⊥)
+      mine m e = subst (λ y. In (Ack c.ballot y m) p.told × In y (sites f) × (y ≡ s → ⊥)) (sym first) (subst (λ y. In (Ack c.ballot from y) p.told) e told, from_site, apart)
+
+      -- the risen one is the old one or the new one
+      at_own : (o : Option ℕ) → ack_of acks from ≡ o → (m : ℕ) → risen o n ≡ m → 0 < m → In (Ack c.ballot (from - 1 + 1) m) p.told × In (from - 1 + 1) (sites f) × (from - 1 + 1 ≡ s → ⊥)
+      at_own None q m e l = mine m e
+      at_own (Some k) q m e l = ⊎_elim
+          (λ (a : k < n). mine m (let x : max k n ≡ n = omega arith in sym x ∙ e))
+          (λ (a : n ≤ k). let x : max k n ≡ k = omega arith in let y : k ≡ m = sym x ∙ e in old (slice_get acks (from - 1)) refl q y)
+          (cases_lt k n)
+        where
+          old : (o : Option (Option ℕ)) → slice_get acks (from - 1) ≡ o → ack_of acks from ≡ Some k → k ≡ m → In (Ack c.ballot (from - 1 + 1) m) p.told × In (from - 1 + 1) (sites f) × (from - 1 + 1 ≡ s → ⊥)
+          old None r q y = let z : ack_of acks from ≡ None = ap flat r in absurd (let w : None ≡ Some k = sym z ∙ q in cc)
+          old (Some a) r q y = let z : ack_of acks from ≡ a = ap flat r in let w : a ≡ Some m = sym z ∙ q ∙ ap Some y in h.acks (from - 1) m (r ∙ ap Some w) l
+
+      ok : AcksOk f p s c.ballot (raised acks from n)
+      ok k m e l = ⊎_elim
+          (λ (r : (k ≡ from - 1) × (Some (risen (ack_of acks from) n) ≡ Some m)).
+          let same : risen (ack_of acks from) n ≡ m = (let q = r.1 in cc) in
+          subst (λ y. In (Ack c.ballot (y + 1) m) p.told × In (y + 1) (sites f) × (y + 1 ≡ s → ⊥)) (sym r.0) (at_own (ack_of acks from) refl m same l))
+          (λ (r : slice_get acks k ≡ Some (Some m)). h.acks k m r l)
+          (set_got acks (from - 1) (Some (risen (ack_of acks from) n)) k (Some m) e)
+
+  pub accepted_does : (c : BallotLog E) (from b n : ℕ) → ((p : Past E) → ((x : Sent E) → In x xs → SentOk f p x) → In (Ack b from n) p.told × In from (sites f)) → (from ≡ s → ⊥) → Does f s xs c (accepted c from b n)
+  unfolding accepted
+  accepted_does c from b n told apart = cond_both (may_hear c b n) (advance (heard c from n)) (dropped c) (λ (r : Stepped E). Does f s xs c r)
+      (λ t. and_then f s xs c (heard c from n) (advance (heard c from n)).log [] (advance (heard c from n)).out.sends
+        (by_step f s xs c (heard c from n) [] (λ p hist g given.
+          let k = and_parts (leads c.role) ((b == c.ballot) && nat_le n (held c)) t in
+          let at : b ≡ c.ballot = eqb-true b c.ballot (and_parts (b == c.ballot) (nat_le n (held c)) k.1).0 in
+          let r = told p given in
+          with_role f p hist s here c g (with_ack c.role from n) (heard_role c p g from n (subst (λ y. In (Ack y from n) p.told) at r.0) r.1 apart c.role g.role)))
+        (advance_does (heard c from n)))
+      (λ t. nothing_keeps f s xs c)
+
+  -- CATCHUP
+  page_ok : (c : BallotLog E) (p : Past E) → SiteOk f p s c → (n : ℕ) → n < length c.chosen → LearnOk p (n + 1) (take WINDOW (drop n c.chosen))
+  page_ok c p g n lt = record {
+    log = c.chosen;
+    chosen = g.chosen;
+    within = omega (arith, length-take WINDOW (drop n c.chosen), length-drop n c.chosen);
+    same = λ k l. let e : n + k ≡ n + 1 - 1 + k = omega arith in get_take WINDOW (drop n c.chosen) k l ∙ get_drop n c.chosen k ∙ ap (slice_get c.chosen) e;
+  }
+
+  pub catch_up_does : (c : BallotLog E) (from n : ℕ) → (from ≡ s → ⊥) → Does f s xs c (catch_up c from n)
+  unfolding catch_up
+  catch_up_does c from n apart = cond_both (nat_lt n (count c)) (sending c ((from, Learn (n + 1) (take WINDOW (drop n c.chosen))) ∷ [])) (dropped c) (λ (r : Stepped E). Does f s xs c r)
+      (λ t. by_step f s xs c c ((from, Learn (n + 1) (take WINDOW (drop n c.chosen))) ∷ []) (λ p hist g given.
+        sends_alone f p hist s here c g ((from, Learn (n + 1) (take WINDOW (drop n c.chosen))) ∷ []) (to_one_ok f s here p from (Learn (n + 1) (take WINDOW (drop n c.chosen))) apart (page_ok c p g n (ltb-true n (count c) t)))))
+      (λ t. nothing_keeps f s xs c)
+
+  -- APPEND
+  append_in : (c : BallotLog E) (e : E) (r : Role E) → c.role ≡ r → leads r ≡ true → (p : Past E) → HistoryOk f p → SiteOk f p s c → Step f p s (joined c e) (to_others c (Accept c.ballot (held c + 1) e))
+  append_in c e Follows q l p hist g = absurd (true≢false (sym l))
+  append_in c e (Collects vows) q l p hist g = absurd (true≢false (sym l))
+  append_in c e (Leads acks) q l p hist g = append_step dec f p hist s here c g acks q (subst (RoleOk f p s c) q g.role) e
+
+  pub append_does : (c : BallotLog E) (e : E) → Does f s xs c (append c e)
+  unfolding append
+  append_does c e = cond_both (may_append c) (put_in c e) (dropped c) (λ (r : Stepped E). Does f s xs c r)
+      (λ t. and_then f s xs c (joined c e) (advance (joined c e)).log (to_others c (Accept c.ballot (held c + 1) e)) (advance (joined c e)).out.sends
+        (by_step f s xs c (joined c e) (to_others c (Accept c.ballot (held c + 1) e)) (λ p hist g given. append_in c e c.role refl (and_parts (leads c.role) (nat_lt (length c.tail) WINDOW) t).0 p hist g))
+        (advance_does (joined c e)))
+      (λ t. nothing_keeps f s xs c)
+
+  -- TICK
+  missing_ok : (c : BallotLog E) (p : Past E) → SiteOk f p s c → (q : ℕ → Bool) (m : BallotMessage E) → MessageOk f p s m → (x : ℕ × BallotMessage E) → In x (map (λ j. (j, m)) (filter q (others c))) → SentOk f p (record { from = s; to = x.0; message = x.1 })
+  missing_ok c p g q m ok x i =
+      let r = in_mapped (λ j. (j, m)) x (filter q (others c)) i in
+      to_others_ok f s here p c g.f_is g.site_is m ok x (subst (λ y. In y (to_others c m)) r.2 (in_map (λ j. (j, m)) r.0 (others c) (in_filter q r.0 (others c) r.1).0))
+
+  accepts_ok : (c : BallotLog E) (p : Past E) (j b slot : ℕ) (es : List E) → (s ≡ j → ⊥) → ((k : ℕ) (e : E) → slice_get es k ≡ Some e → AcceptOk p b (slot + k) e) → (x : ℕ × BallotMessage E) → In x (accepts j b slot es) → SentOk f p (record { from = s; to = x.0; message = x.1 })
+  accepts_ok c p j b slot [] apart ok x i = absurd i
+  accepts_ok c p j b slot (e ∷ es) apart ok x (inl q) =
+      let P : ℕ × BallotMessage E → Type 0 = λ y. SentOk f p (record { from = s; to = y.0; message = y.1 }) in
+      let z : slot + 0 ≡ slot = omega arith in
+      subst P q (record { here = here; apart = apart; message = subst (λ y. AcceptOk p b y e) z (ok 0 e refl) })
+  accepts_ok c p j b slot (e ∷ es) apart ok x (inr i) =
+      accepts_ok c p j b (slot + 1) es apart (λ k d q. let z : slot + suc k ≡ slot + 1 + k = omega arith in subst (λ y. AcceptOk p b y d) z (ok (suc k) d q)) x i
+
+  repeated_ok : (c : BallotLog E) (p : Past E) → SiteOk f p s c → c.accepted ≡ c.ballot → (j : ℕ) → In j (others c) → (o : Option ℕ) → (x : ℕ × BallotMessage E) → In x (repeated c j o) → SentOk f p (record { from = s; to = x.0; message = x.1 })
+  repeated_ok c p g same j i o x k = on o k
+    where
+      log : LogIs p c.ballot (whole c)
+      log = subst (λ a. LogIs p a (whole c)) same g.log
+
+      apart : s ≡ j → ⊥
+      apart q = not_equal j c.site (in_filter (λ z. not (z == c.site)) j (sites c.f) i).1 (sym q ∙ sym g.site_is)
+
+      state : StateOk p c.ballot (count c) c.tail
+      state = record { log = whole c; fits = length-append c.chosen c.tail; is = drop-append_seam c.chosen c.tail; facts = log }
+
+      entry : (n k : ℕ) (e : E) → count c ≤ n → slice_get (drop (n - count c) c.tail) k ≡ Some e → AcceptOk p c.ballot (n + 1 + k) e
+      entry n k e le q = record {
+        log = whole c;
+        place = n + k;
+        is = omega arith;
+        entry =
+            let a : n - count c + k ≡ n + k - length c.chosen = omega arith in
+            get_append c.chosen c.tail (n + k) (omega arith) ∙ ap (slice_get c.tail) (sym a) ∙ sym (get_drop (n - count c) c.tail k) ∙ q;
+        facts = log;
+      }
+
+      on : (o : Option ℕ) → In x (repeated c j o) → SentOk f p (record { from = s; to = x.0; message = x.1 })
+      on None k = to_one_ok f s here p j (NewState c.ballot (count c) c.tail) (λ q. apart (sym q)) state x k
+      on (Some n) k = accepts_ok c p j c.ballot (max n (count c) + 1) (drop (max n (count c) - count c) c.tail) apart (λ k e q. entry (max n (count c)) k e (omega arith) q) x k
+
+  repeats_ok : (c : BallotLog E) (p : Past E) → SiteOk f p s c → (r : Role E) → RoleOk f p s c r → (x : ℕ × BallotMessage E) → In x (repeats c r) → SentOk f p (record { from = s; to = x.0; message = x.1 })
+  repeats_ok c p g Follows h x i = absurd i
+  repeats_ok c p g (Collects vows) h x i = cond_both (nat_lt c.f (length vows)) [] (map (λ j. (j, NewBallot c.ballot)) (missing c vows)) (λ l. In x l → SentOk f p (record { from = s; to = x.0; message = x.1 }))
+      (λ t n. absurd n)
+      (λ t j. missing_ok c p g (λ j. not (vowed vows j)) (NewBallot c.ballot) tt x j)
+      i
+  repeats_ok c p g (Leads acks) h x i =
+      let r = in_gathered (λ j. repeated c j (ack_of acks j)) x (others c) i in
+      repeated_ok c p g h.same r.0 r.1 (ack_of acks r.0) x r.2
+
+  pub tick_does : (c : BallotLog E) → Does f s xs c (tick c)
+  unfolding tick
+  tick_does c = by_step f s xs c c (to_others c (CatchUp (count c)) ++ repeats c c.role) (λ p hist g given.
+      sends_alone f p hist s here c g (to_others c (CatchUp (count c)) ++ repeats c c.role) (λ x i. ⊎_elim
+        (λ a. to_others_ok f s here p c g.f_is g.site_is (CatchUp (count c)) tt x a)
+        (λ a. repeats_ok c p g c.role g.role x a)
+        (in_either x (to_others c (CatchUp (count c))) (repeats c c.role) i)))
