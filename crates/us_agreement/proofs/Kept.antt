@@ -18,7 +18,7 @@ use Rattle.us_ballot_model.specs.declared.message.BallotMessage.TheVariants.{New
 use Rattle.us_ballot_model.specs.Ballots.{LAST, WINDOW, sites, owner, next_ballot, others, to_others, count, held, vowed, own_vow, best, backers, ack_of, flat, follows, leads, most}
 use Rattle.us_ballot_model.specs.Rules.{Stepped, sending, dropped, before, ready, ready_as, advanced, advance_by, advance, led, begin, start_by, best_of, due, start_with, start, collecting, lead_in, lead, may_follow, following, new_ballot, may_record, may_promise, with_vow, recorded, promise, restated, acknowledging, state_in, new_state, may_accept, joined, accept_in, tell_accepted, accept, risen, raised, with_ack, heard, may_hear, accepted, catch_up, trimmed, learnt, known, may_learn, learn_from, learn, take_message, missing, accepts, accepts_after, repeated, repeats, tick, may_append, put_in, append}
 use Rattle.us_ballot_model.specs.Worlds.{Sent, put, sent_by}
-use Rattle.us_agreement.proofs.Same.{IsDecided, Same, get_drop, get_front}
+use Rattle.us_agreement.proofs.Same.{IsDecided, Same, get_drop, get_back}
 use Rattle.us_agreement.proofs.History.{Acknowledgement, Ack}
 use Rattle.us_agreement.proofs.Counting.{site_within}
 use Rattle.us_agreement.proofs.Owners.{owner_next, next_above, most_fits, most_passes}
@@ -61,6 +61,16 @@ get_take (suc n) (x ∷ xs) (suc k) l = get_take n xs k (omega arith)
 in_gathered : {X Y : Type 0} (g : X → List Y) (y : Y) (xs : List X) → In y (flat_map g xs) → (x : X) × In x xs × In y (g x)
 in_gathered g y [] i = absurd i
 in_gathered g y (x ∷ xs) i = ⊎_elim (λ a. (x, inl refl, a)) (λ a. let r = in_gathered g y xs a in (r.0, inr r.1, r.2)) (in_either y (g x) (flat_map g xs) i)
+
+-- a list that reads as es at its front begins with it
+reads_front : {X : Type 0} (es tail : List X) → ((k : ℕ) → k < length es → slice_get tail k ≡ slice_get es k) → tail ≡ es ++ drop (length es) tail
+reads_front [] tail h = refl
+reads_front (e ∷ es) [] h = absurd (let q = h 0 (omega arith) in cc)
+reads_front (e ∷ es) (x ∷ tail) h =
+    let q : Some x ≡ Some e = h 0 (omega arith) in
+    let same : x ≡ e = cc in
+    let rest = reads_front es tail (λ k l. h (suc k) (omega arith)) in
+    λ i. same i ∷ rest i
 
 module _ {E : Type 0} (dec : IsDecided E) (f s : ℕ) (here : In s (sites f)) (xs : List (Sent E)) where
   -- ADVANCE
@@ -374,3 +384,42 @@ module _ {E : Type 0} (dec : IsDecided E) (f s : ℕ) (here : In s (sites f)) (x
         (λ a. to_others_ok f s here p c g.f_is g.site_is (CatchUp (count c)) tt x a)
         (λ a. repeats_ok c p g c.role g.role x a)
         (in_either x (to_others c (CatchUp (count c))) (repeats c c.role) i)))
+
+  -- LEARN
+  module _ (eq : E → E → Bool) (decides : (x y : E) → Decides (eq x y) (x ≡ y)) where
+    at_front : (c : BallotLog E) (es : List E) → starts_with eq c.tail es ≡ true → c.tail ≡ es ++ drop (length es) c.tail
+    at_front c es t = (starts_is decides c.tail es (starts_with eq c.tail es) refl).0 t
+
+    not_at_front : (c : BallotLog E) (es : List E) → starts_with eq c.tail es ≡ false → Same (length (c.chosen ++ es)) (whole c) (c.chosen ++ es) → ⊥
+    not_at_front c es t same =
+        let reads : (k : ℕ) → k < length es → slice_get c.tail k ≡ slice_get es k = λ k l. sym (get_back c.chosen c.tail k) ∙ same.at (length c.chosen + k) (omega (arith, length-append c.chosen es)) ∙ get_back c.chosen es k in
+        let e = (starts_is decides c.tail es (starts_with eq c.tail es) refl).1 (drop (length es) c.tail) (reads_front es c.tail reads) in
+        true≢false (sym e ∙ t)
+
+    learn_with : (c : BallotLog E) (es : List E) → ((p : Past E) → HistoryOk f p → SiteOk f p s c → ((x : Sent E) → In x xs → SentOk f p x) → Chosen p (c.chosen ++ es)) → Does f s xs c (learn_from eq c es)
+    learn_with c es told = cond_both (starts_with eq c.tail es) (drop (length es) c.tail) [] (λ tail. Does f s xs c (before [] es (start (record c { chosen = c.chosen ++ es; tail = tail }))))
+        (λ t. and_then f s xs c (record c { chosen = c.chosen ++ es; tail = drop (length es) c.tail }) (start (record c { chosen = c.chosen ++ es; tail = drop (length es) c.tail })).log [] (start (record c { chosen = c.chosen ++ es; tail = drop (length es) c.tail })).out.sends
+          (by_step f s xs c (record c { chosen = c.chosen ++ es; tail = drop (length es) c.tail }) [] (λ p hist g given. learn_front dec f p hist s here c g es (told p hist g given) (at_front c es t)))
+          (start_does (record c { chosen = c.chosen ++ es; tail = drop (length es) c.tail })))
+        (λ t. and_then f s xs c (record c { chosen = c.chosen ++ es; tail = [] }) (start (record c { chosen = c.chosen ++ es; tail = [] })).log [] (start (record c { chosen = c.chosen ++ es; tail = [] })).out.sends
+          (by_step f s xs c (record c { chosen = c.chosen ++ es; tail = [] }) [] (λ p hist g given. learn_apart dec f p hist s here c g es (told p hist g given) (not_at_front c es t)))
+          (start_does (record c { chosen = c.chosen ++ es; tail = [] })))
+
+    pub learn_does : (c : BallotLog E) (first : ℕ) (es : List E) → ((p : Past E) → ((x : Sent E) → In x xs → SentOk f p x) → LearnOk p first es) → Does f s xs c (learn eq c first es)
+    unfolding learn
+    learn_does c first es told = cond_both (may_learn c first es) (learn_from eq c (drop (known c first) es)) (dropped c) (λ (r : Stepped E). Does f s xs c r)
+        (λ t.
+          let k = and_parts (nat_le (first - 1) (count c)) (nat_lt (known c first) (length es)) t in
+          learn_with c (drop (known c first) es) (λ p hist g given. page_chosen dec f p hist s here c g first es (told p given) (leb-true (first - 1) (count c) k.0) (ltb-true (known c first) (length es) k.1)))
+        (λ t. nothing_keeps f s xs c)
+
+    -- ANY MESSAGE that was sent here
+    pub take_does : (c : BallotLog E) (from : ℕ) (m : BallotMessage E) → ((p : Past E) → ((x : Sent E) → In x xs → SentOk f p x) → SentOk f p (record { from = from; to = s; message = m })) → (from ≡ s → ⊥) → Does f s xs c (take_message eq c from m)
+    unfolding take_message
+    take_does c from (NewBallot b) told apart = new_ballot_does c from b apart
+    take_does c from (Promise b accepted base tail) told apart = promise_does c b (record { site = from; accepted = accepted; base = base; tail = tail }) (λ p given. (told p given).message) apart
+    take_does c from (NewState b base tail) told apart = new_state_does c from b base tail (λ p given. (told p given).message) apart
+    take_does c from (Accept b slot e) told apart = accept_does c from b slot e (λ p given. (told p given).message) apart
+    take_does c from (Accepted b n) told apart = accepted_does c from b n (λ p given. ((told p given).message, (told p given).here)) apart
+    take_does c from (CatchUp n) told apart = catch_up_does c from n apart
+    take_does c from (Learn first es) told apart = learn_does c first es (λ p given. (told p given).message)

@@ -3,7 +3,7 @@ use Rattle.std.specs.Prelude.{ℕ, ◌+◌, ◌*◌, List, [], ◌∷◌, ◌++�
 use Rattle.us_ballot_model.specs.declared.log.BallotLog.{BallotLog}
 use Rattle.us_ballot_model.specs.declared.message.BallotMessage.{BallotMessage}
 use Rattle.us_ballot_model.specs.Ballots.{opening}
-use Rattle.us_ballot_model.specs.Rules.{Stepped, lead, append, tick, take_message}
+use Rattle.us_ballot_model.specs.Rules.{Stepped, lead, may_append, append, tick, take_message}
 
 -- a message with the site that sent it and the one that it goes to
 pub record Sent (E : Type 0) : Type 0 where
@@ -11,7 +11,7 @@ pub record Sent (E : Type 0) : Type 0 where
   pub to : ℕ
   pub message : BallotMessage E
 
--- each site's log, all messages ever sent in order, which sites haven't crashed, and the entries that were to be appended
+-- each site's log, all messages ever sent in order, which sites haven't crashed, and the entries that leaders took
 pub record World (E : Type 0) : Type 0 where
   pub at : ℕ → BallotLog E
   pub sent : List (Sent E)
@@ -45,13 +45,18 @@ stepped w s r = record w { at = put w.at s r.log; sent = w.sent ++ sent_by s r.o
 abbrev pub steps : {E : Type 0} → ℕ → World E → ℕ → Stepped E → World E
 steps f w s r = if acts f w s then stepped w s r else w
 
+-- a leader whose tail has room takes the entry
+abbrev pub appends : {E : Type 0} → ℕ → World E → ℕ → E → World E
+appends f w s e =
+    if acts f w s && may_append (w.at s) then record (stepped w s (append (w.at s) e)) { appended = w.appended ++ e ∷ [] } else w
+
 abbrev pub comes : {E : Type 0} → (E → E → Bool) → ℕ → World E → Option (Sent E) → World E
 comes eq f w None = w
 comes eq f w (Some p) = steps f w p.to (take_message eq (w.at p.to) p.from p.message)
 
 unfoldable pub happens : {E : Type 0} → (E → E → Bool) → ℕ → World E → Happening E → World E
 happens eq f w (Leads s) = steps f w s (lead (w.at s))
-happens eq f w (Appends s e) = steps f (record w { appended = w.appended ++ e ∷ [] }) s (append (w.at s) e)
+happens eq f w (Appends s e) = appends f w s e
 happens eq f w (Ticks s) = steps f w s (tick (w.at s))
 happens eq f w (Crashes s) = record w { live = put w.live s false }
 happens eq f w (Comes k) = comes eq f w (slice_get w.sent k)
