@@ -11,3 +11,4 @@ pub mod Growing
 pub mod Starting
 pub mod Owners
 pub mod Kept
+pub mod Runs
