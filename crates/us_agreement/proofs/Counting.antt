@@ -36,7 +36,7 @@ pub site_in : (i k x : ℕ) → i ≤ x → x < i + k → In x (sites_from i k)
 site_in i zero x a b = absurd (omega arith)
 site_in i (suc k) x a b = ⊎_elim (λ (e : i ≡ x). inl e) (λ (n : i ≡ x → ⊥). inr (site_in (i + 1) k x (omega arith) (omega arith))) (cases_eq i x)
 
-length_sites : (i k : ℕ) → length (sites_from i k) ≡ k
+pub length_sites : (i k : ℕ) → length (sites_from i k) ≡ k
 length_sites i zero = refl
 length_sites i (suc k) = ap suc (length_sites (i + 1) k)
 

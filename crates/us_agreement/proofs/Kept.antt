@@ -58,12 +58,12 @@ get_take (suc n) [] k l = refl
 get_take (suc n) (x ∷ xs) zero l = refl
 get_take (suc n) (x ∷ xs) (suc k) l = get_take n xs k (omega arith)
 
-in_gathered : {X Y : Type 0} (g : X → List Y) (y : Y) (xs : List X) → In y (flat_map g xs) → (x : X) × In x xs × In y (g x)
+pub in_gathered : {X Y : Type 0} (g : X → List Y) (y : Y) (xs : List X) → In y (flat_map g xs) → (x : X) × In x xs × In y (g x)
 in_gathered g y [] i = absurd i
 in_gathered g y (x ∷ xs) i = ⊎_elim (λ a. (x, inl refl, a)) (λ a. let r = in_gathered g y xs a in (r.0, inr r.1, r.2)) (in_either y (g x) (flat_map g xs) i)
 
 -- a list that reads as es at its front begins with it
-reads_front : {X : Type 0} (es tail : List X) → ((k : ℕ) → k < length es → slice_get tail k ≡ slice_get es k) → tail ≡ es ++ drop (length es) tail
+pub reads_front : {X : Type 0} (es tail : List X) → ((k : ℕ) → k < length es → slice_get tail k ≡ slice_get es k) → tail ≡ es ++ drop (length es) tail
 reads_front [] tail h = refl
 reads_front (e ∷ es) [] h = absurd (let q = h 0 (omega arith) in cc)
 reads_front (e ∷ es) (x ∷ tail) h =

@@ -12,3 +12,4 @@ pub mod Starting
 pub mod Owners
 pub mod Kept
 pub mod Runs
+pub mod Agree
