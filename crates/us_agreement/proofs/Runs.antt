@@ -95,7 +95,7 @@ module _ (E : Type 0) (f : ℕ) where
   opening_ok = record { past = first_past; facts = record { history = first_history; site = first_site; sent = λ x i. absurd i } }
 
 module _ {E : Type 0} (eq : E → E → Bool) (decides : (x y : E) → Decides (eq x y) (x ≡ y)) where
-  dec : IsDecided E
+  pub dec : IsDecided E
   dec x y = on (eq x y) refl
     where
       on : (b : Bool) → eq x y ≡ b → (x ≡ y) ⊎ (x ≡ y → ⊥)
