@@ -1,0 +1,48 @@
+-- Who owns a ballot, and numbers that pass.
+use Rattle.std.proofs.Common.{◌≡◌, ◌⊎◌, inl, inr, ⊎_elim, ℕ, zero, suc, ◌+◌, ◌-◌, ◌*◌, ◌/◌, ◌%◌, ◌<◌, ◌≤◌, Bool, true, false, refl, sym, ap, ◌∙◌, subst, arith, true≢false}
+use Rattle.std.specs.Prelude.{if◌then◌else◌}
+use Rattle.std.proofs.Math.Nat.{add-mod-mod, div-add-mod}
+use Rattle.std.proofs.lemmas.Nat.{mod-mul-add, mod_below}
+use Rattle.us_ballot_model.specs.Ballots.{owner, next_ballot, most}
+
+-- b and up to the next multiple of d, and s - 1 more
+turn : (d b s : ℕ) → 0 < d → 1 ≤ s → s ≤ d → (b + (d - 1 + s - b % d) % d) % d ≡ s - 1
+turn d b s some first last =
+    let r = b % d in
+    let q = b / d in
+    let low : b % d < d = mod_below b d some in
+    let whole : d * (b / d) + b % d ≡ b = div-add-mod b d in
+    let m = d - 1 + s - b % d in
+    let sum : b + (d - 1 + s - b % d) ≡ d * (b / d) + (d - 1 + s) = omega arith in
+    let split : d * (b / d) + (d - 1 + s) ≡ (b / d + 1) * d + (s - 1) = grind arith in
+    add-mod-mod b (d - 1 + s - b % d) d ∙ ap (λ x. x % d) (sum ∙ split) ∙ mod-mul-add (b / d + 1) d (s - 1) (omega arith)
+
+pub owner_next : (f s b : ℕ) → 1 ≤ s → s ≤ 2 * f + 1 → owner f (next_ballot f s b) ≡ s
+unfolding owner next_ballot
+owner_next f s b first last =
+    let d = 2 * f + 1 in
+    let t = turn d b s (omega arith) first last in
+    let less : 2 * f + s ≡ d - 1 + s = omega arith in
+    let shift : b + 1 + (2 * f + s - b % d) % d - 1 ≡ b + (2 * f + s - b % d) % d = omega arith in
+    let e : (b + 1 + (2 * f + s - b % d) % d - 1) % d ≡ s - 1 = ap (λ x. x % d) shift ∙ ap (λ x. (b + (x - b % d) % d) % d) less ∙ t in
+    omega arith
+
+pub next_above : (f s b : ℕ) → b < next_ballot f s b
+unfolding next_ballot
+next_above f s b = omega arith
+
+pub most_fits : (p : ℕ → Bool) (n : ℕ) → most p n ≤ n
+most_fits p zero = omega arith
+most_fits p (suc n) = on (p (suc n)) (most_fits p n)
+  where
+    on : (b : Bool) → most p n ≤ n → (if b then suc n else most p n) ≤ suc n
+    on true l = omega arith
+    on false l = omega arith
+
+pub most_passes : (p : ℕ → Bool) (n : ℕ) → 0 < most p n → p (most p n) ≡ true
+most_passes p zero l = absurd (omega arith)
+most_passes p (suc n) l = on (p (suc n)) refl l (most_passes p n)
+  where
+    on : (b : Bool) → p (suc n) ≡ b → 0 < (if b then suc n else most p n) → (0 < most p n → p (most p n) ≡ true) → p (if b then suc n else most p n) ≡ true
+    on true e l h = e
+    on false e l h = h l

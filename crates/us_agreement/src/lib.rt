@@ -1,0 +1,34 @@
+//! Laws over every run of the written ballot log.
+//!
+//! A run is any list of happenings in a small world of 2f + 1 sites: a site leads, appends an entry, ticks or crashes, or any
+//! message ever sent comes to its site, any number of times, in any order. Entries are of any type whose `==` tells them apart.
+#![tactic(auto)]
+
+ghost use Rattle.us_agreement.specs.Laws.{ChosenListsAgree, ChosenListsGrow, ChosenEntriesWereAppended, ChosenEntriesAreHeld, TailsAreShort};
+
+use us_kind::Slot;
+
+/// Of two sites' chosen lists one is the front of the other.
+pub fn chosen_lists_agree<E: Slot>()
+    ensures { ChosenListsAgree E.eq }
+{}
+
+/// A chosen list only grows, whatever happens next.
+pub fn chosen_lists_grow<E: Slot>()
+    ensures { ChosenListsGrow E.eq }
+{}
+
+/// Each chosen entry was put into the log by a leader.
+pub fn chosen_entries_were_appended<E: Slot>()
+    ensures { ChosenEntriesWereAppended E.eq }
+{}
+
+/// Once chosen, an entry is held in its slot, as chosen or in a tail, by f + 1 sites, whatever happens next.
+pub fn chosen_entries_are_held<E: Slot>()
+    ensures { ChosenEntriesAreHeld E.eq }
+{}
+
+/// A tail has at most 8 entries.
+pub fn tails_are_short<E: Slot>()
+    ensures { TailsAreShort E.eq }
+{}

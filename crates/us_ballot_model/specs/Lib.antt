@@ -1,0 +1,4 @@
+pub mod Ballots
+pub mod Rules
+pub mod Worlds
+pub mod Example
