@@ -8,6 +8,7 @@ use Rattle.us_value.specs.Values.{is_update}
 use Rattle.us_exec.specs.declared.SessionName.{SessionName}
 use Rattle.us_exec.specs.declared.Done.{Done}
 use Rattle.us_exec.specs.declared.Link.{Link}
+use Rattle.us_exec.specs.declared.RefusedRequest.{RefusedRequest}
 use Rattle.us_exec.specs.Past.{session_eq}
 
 pub record Begun : Type 0 where
@@ -33,11 +34,6 @@ pub record Aborted : Type 0 where
   pub named : Tid
   pub item : Item
 
-pub record Refusal : Type 0 where
-  pub session : SessionName
-  pub at : ℕ
-  pub number : ℕ
-
 -- A HISTORY: what happened, by kind, each in order
 pub record History : Type 0 where
   pub begun : List Begun
@@ -46,7 +42,7 @@ pub record History : Type 0 where
   pub left : List Tid
   pub aborted : List Aborted
   pub links : List Link
-  pub refused : List Refusal
+  pub refused : List RefusedRequest
 
 abbrev pub no_history : History
 no_history = record { begun = []; performed = []; committed = []; left = []; aborted = []; links = []; refused = [] }

@@ -1,7 +1,8 @@
 -- The history that the notes tell, and its execution.
 use Rattle.std.specs.Prelude.{ℕ, ◌+◌, List, [], ◌∷◌, ◌++◌, Bool, false, Option, Some, None}
 use Rattle.us_exec.specs.declared.Execution.{Execution}
-use Rattle.us_history.specs.Histories.{Begun, Committed, Refusal, History, no_history, begun_of, ops_of, committed_in}
+use Rattle.us_exec.specs.declared.RefusedRequest.{RefusedRequest}
+use Rattle.us_history.specs.Histories.{Begun, Committed, History, no_history, begun_of, ops_of, committed_in}
 use Rattle.us_history.specs.Pasts.{past_of}
 use Rattle.us_history.specs.Executions.{execution_by}
 use Rattle.us_model.specs.declared.event.Note.{Note}
@@ -33,7 +34,7 @@ abbrev pub history_of : List Note → History
 history_of notes = noted_all no_history notes
 
 -- the refused requests, in order
-abbrev pub refusals_of : List Note → List Refusal
+abbrev pub refusals_of : List Note → List RefusedRequest
 refusals_of notes = (history_of notes).refused
 
 -- THE EXECUTION OF A WORLD, by its notes: each past is what reaches the transaction

@@ -6,7 +6,7 @@ use Rattle.us_peer_wire.specs.declared.message.Packet.{Packet}
 use Rattle.us_model.specs.declared.event.Event.{Event}
 use Rattle.us_model.specs.declared.event.Event.TheVariants as event
 use Rattle.us_model.specs.declared.event.Note.{Note}
-use Rattle.us_exec.specs.declared.SessionName.{SessionName}
+use Rattle.us_exec.specs.declared.WaitingRequest.{WaitingRequest}
 use Rattle.us_model.specs.declared.coordinator.Ask.{Ask}
 use Rattle.us_model.specs.declared.coordinator.Session.{Session}
 use Rattle.us_model.specs.declared.coordinator.Waiting.{Waiting}
@@ -91,10 +91,6 @@ Flushes from to w [] = least_undelivered w from to ≡ None
 Flushes from to w (h ∷ hs) = ((k : ℕ) × (least_undelivered w from to ≡ Some k) × (h ≡ Comes k)) × Flushes from to (happens w h) hs
 
 -- THE REQUESTS THAT WAIT: of each open session with unanswered requests the first one, by its number
-pub record Waits : Type 0 where
-  pub session : SessionName
-  pub at : ℕ
-
 abbrev pub first_ask : List Ask → Option ℕ
 first_ask [] = None
 first_ask (a ∷ rest) = Some a.at
@@ -104,19 +100,19 @@ first_unanswered asks waits.Nothing = first_ask asks
 first_unanswered asks (waits.Version at place item op) = Some at
 first_unanswered asks (waits.Prepared at missing told) = Some at
 
-abbrev pub waits_one : ℕ → ℕ → Session → Option ℕ → List Waits → List Waits
+abbrev pub waits_one : ℕ → ℕ → Session → Option ℕ → List WaitingRequest → List WaitingRequest
 waits_one site coord s None rest = rest
 waits_one site coord s (Some at) rest =
     if s.closed then rest else record { session = record { site = site; coord = coord; number = s.number }; at = at } ∷ rest
 
-abbrev pub waits_in : ℕ → ℕ → List Session → List Waits
+abbrev pub waits_in : ℕ → ℕ → List Session → List WaitingRequest
 waits_in site coord [] = []
 waits_in site coord (s ∷ ss) = waits_one site coord s (first_unanswered s.asks s.waits) (waits_in site coord ss)
 
-abbrev pub waits_at : ℕ → ℕ → List Shard → List Waits
+abbrev pub waits_at : ℕ → ℕ → List Shard → List WaitingRequest
 waits_at site coord [] = []
 waits_at site coord (shard ∷ shards) = waits_in site coord shard.coordinator.sessions ++ waits_at site (coord + 1) shards
 
-abbrev pub waits_of : List Site → List Waits
+abbrev pub waits_of : List Site → List WaitingRequest
 waits_of [] = []
 waits_of (site ∷ sites) = waits_at site.number 1 site.shards ++ waits_of sites

@@ -7,7 +7,7 @@ use Rattle.std.proofs.lemmas.Bool.Decides.{nat_tests}
 use Rattle.us_kind.specs.Words.{In, tid_eq}
 use Rattle.us_kind.proofs.ListLemmas.{goes_nowhere}
 use Rattle.us_peer_wire.specs.declared.message.Actor.{Actor}
-use Rattle.us_history.specs.Histories.{Refusal}
+use Rattle.us_exec.specs.declared.RefusedRequest.{RefusedRequest}
 use Rattle.us_history.specs.States.{or_register}
 use Rattle.us_snapshots.proofs.Acts.{HasWrites}
 use Rattle.us_kind.specs.declared.identity.Tid.{Tid}
@@ -48,10 +48,10 @@ pub stays_keeps : (spaces : Spaces) (b : Ledger) (p : Partition) (l : Ledger) (d
 stays_keeps spaces b p l d s st h = kept_same spaces b p l s s d st h h.mine refl
 
 -- A NOTE OF WHICH NO FACT SPEAKS
-abbrev pub quiet : Ledger → List Tid → List Refusal → Ledger
+abbrev pub quiet : Ledger → List Tid → List RefusedRequest → Ledger
 quiet l xs ys = record l { history = record l.history { left = xs; refused = ys } }
 
-abbrev quiet_grows : (n : ℕ) (l : Ledger) (xs : List Tid) (ys : List Refusal) → Grows n l (quiet l xs ys)
+abbrev quiet_grows : (n : ℕ) (l : Ledger) (xs : List Tid) (ys : List RefusedRequest) → Grows n l (quiet l xs ys)
 quiet_grows n l xs ys = record {
   messages = goes_nowhere _;
   sent = λ m i. absurd i;
@@ -63,7 +63,7 @@ quiet_grows n l xs ys = record {
   decides = λ c i. absurd i;
 }
 
-quiet_running : (spaces : Spaces) (log : List LogTx) (l : Ledger) (xs : List Tid) (ys : List Refusal) (n last : ℕ) (w : Waiting) (t : Transaction) → RunningFacts spaces log l n last w t → RunningFacts spaces log (quiet l xs ys) n last w t
+quiet_running : (spaces : Spaces) (log : List LogTx) (l : Ledger) (xs : List Tid) (ys : List RefusedRequest) (n last : ℕ) (w : Waiting) (t : Transaction) → RunningFacts spaces log l n last w t → RunningFacts spaces log (quiet l xs ys) n last w t
 quiet_running spaces log l xs ys n last w t h = record {
   begun = h.begun;
   ops = h.ops;
@@ -75,16 +75,16 @@ quiet_running spaces log l xs ys n last w t h = record {
   waiting = waits-later l (quiet l xs ys) t w (goes_nowhere l.messages) h.waiting;
 }
 
-quiet_session : (spaces : Spaces) (log : List LogTx) (l : Ledger) (xs : List Tid) (ys : List Refusal) (n : ℕ) (past : List ℕ) (running : Option Transaction) (w : Waiting) (asks : List Ask) (asked : ℕ) → SessionFacts spaces log l n past running w asks asked → SessionFacts spaces log (quiet l xs ys) n past running w asks asked
+quiet_session : (spaces : Spaces) (log : List LogTx) (l : Ledger) (xs : List Tid) (ys : List RefusedRequest) (n : ℕ) (past : List ℕ) (running : Option Transaction) (w : Waiting) (asks : List Ask) (asked : ℕ) → SessionFacts spaces log l n past running w asks asked → SessionFacts spaces log (quiet l xs ys) n past running w asks asked
 quiet_session spaces log l xs ys n past running w asks asked h = record { covered = h.covered; small = h.small; last = h.last; queue = h.queue; runs = λ t e. quiet_running spaces log l xs ys n h.last w t (h.runs t e) }
 
-quiet_shared : (l : Ledger) (xs : List Tid) (ys : List Refusal) → SharedFacts l → SharedFacts (quiet l xs ys)
+quiet_shared : (l : Ledger) (xs : List Tid) (ys : List RefusedRequest) → SharedFacts l → SharedFacts (quiet l xs ys)
 quiet_shared l xs ys h = record {
   told = record { begun_once = h.told.begun_once; begun_apart = h.told.begun_apart; begun_form = h.told.begun_form; performed = h.told.performed; order = h.told.order; apart = h.told.apart; decided_once = h.told.decided_once; numbers = h.told.numbers; stands = h.told.stands };
   once = h.once;
 }
 
-quiet_keeps : (spaces : Spaces) (b : Ledger) (p : Partition) (l : Ledger) (xs : List Tid) (ys : List Refusal) (d : Desk) (s s' : Session) → Stands b p (quiet l xs ys) d → Facts spaces p l s → SessionFacts spaces p.log l s'.number s'.past s'.running s'.waits s'.asks s'.asked → s'.number ≡ s.number → Kept spaces b p l s.number (record { desk = d; session = s' })
+quiet_keeps : (spaces : Spaces) (b : Ledger) (p : Partition) (l : Ledger) (xs : List Tid) (ys : List RefusedRequest) (d : Desk) (s s' : Session) → Stands b p (quiet l xs ys) d → Facts spaces p l s → SessionFacts spaces p.log l s'.number s'.past s'.running s'.waits s'.asks s'.asked → s'.number ≡ s.number → Kept spaces b p l s.number (record { desk = d; session = s' })
 quiet_keeps spaces b p l xs ys d s s' st h mine n = record {
   ledger = quiet l xs ys;
   stands = st;

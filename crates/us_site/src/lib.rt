@@ -17,4 +17,3 @@ mod waits;
 
 pub use site::Site;
 pub use us_model::{ClientOut, Event, Note, Outputs};
-pub use waits::Unanswered;

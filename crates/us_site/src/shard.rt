@@ -10,11 +10,12 @@ use crate::codec::spelled;
 use crate::coordinator::{Turn, each};
 use crate::partition::Part;
 use crate::session::{TOO_MANY_SESSIONS, after, new_stream};
-use crate::waits::{Unanswered, put_waits_in};
+use crate::waits::put_waits_in;
 use std::alloc::Global;
 use std::marker::Model;
 use us_base::{Shape, Vector};
 use us_client_wire::Reply;
+use us_exec::WaitingRequest;
 use us_kind::{Items, Memory, Tid};
 use us_model::{
     ClientOut, Desk, Event, Get, Note, Outputs, PreparedAt, Session, Settings, Waiting,
@@ -50,7 +51,7 @@ impl Shard {
     }
 
     /// The sessions that wait, in order, are put behind those that are there.
-    pub fn put_waits(&self, me: &Actor, waits: &mut Vec<Unanswered>) -> Result<(), Memory>
+    pub fn put_waits(&self, me: &Actor, waits: &mut Vec<WaitingRequest>) -> Result<(), Memory>
         ensures { OnOk result (waits.new.items ≡ waits.old.items ++ waits_in me.now.site me.now.actor self.now.coordinator.sessions) }
     {
         put_waits_in(me, self.sessions.as_slice(), waits)

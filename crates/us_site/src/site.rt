@@ -6,10 +6,10 @@ ghost use Rattle.us_model.specs.Worlds.{waits_at};
 
 use crate::session::after;
 use crate::shard::Shard;
-use crate::waits::Unanswered;
 use std::alloc::Global;
 use std::marker::Model;
 use us_base::Limits;
+use us_exec::WaitingRequest;
 use us_kind::{Items, Memory};
 use us_model::{Event, Outputs, Settings};
 use us_peer_wire::Actor;
@@ -84,7 +84,7 @@ impl Site {
     }
 
     /// The open sessions with unanswered requests, in order, each with the first one's place, are put behind those that are there.
-    pub fn put_waits(&self, waits: &mut Vec<Unanswered>) -> Result<(), Memory>
+    pub fn put_waits(&self, waits: &mut Vec<WaitingRequest>) -> Result<(), Memory>
         ensures { OnOk result (waits.new.items ≡ waits.old.items ++ waits_at self.now.site.number 1 self.now.site.shards) }
     {
         put_waits_at(self.number, self.shards.as_slice(), waits)
@@ -129,7 +129,7 @@ fn actor_in(event: &Event) -> u8
 fn put_waits_at(
     site: u8,
     shards: &[Shard],
-    waits: &mut Vec<Unanswered>,
+    waits: &mut Vec<WaitingRequest>,
 ) -> Result<(), Memory>
     requires { length shards.now ≤ 16 }
     ensures { OnOk result (waits.new.items ≡ waits.old.items ++ waits_at site 1 shards.now) }

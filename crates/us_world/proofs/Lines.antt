@@ -16,10 +16,9 @@ use Rattle.us_order.specs.Laws.{HistoriesAscend, ExecutionsAreDirect, Executions
 use Rattle.us_world.specs.declared.fault.WorldFault.{WorldFault}
 use Rattle.us_world.specs.declared.fault.WorldFault.TheVariants as fault
 use Rattle.us_world.specs.declared.fault.Numbered.{Numbered}
-use Rattle.us_world.specs.Direct.{reported}
 use Rattle.us_world.specs.Kept.{Kept, StandsFor, after_at}
 use Rattle.us_world.specs.Limits.{Performs, Begins, limit_of, AreEventsOf, IsPassedAt}
-use Rattle.us_world.specs.Lines.{IsBuilt, AllBuilt, PassesBy, IsPerformed, IsStopped, HasReached, HaveWorld, waiting, report_of, report_of_kept, IsReportOf, IsLimitOf, fault_at}
+use Rattle.us_world.specs.Lines.{IsBuilt, AllBuilt, PassesBy, IsPerformed, IsStopped, HasReached, HaveWorld, report_of, report_of_kept, IsReportOf, IsLimitOf, fault_at}
 use Rattle.us_world.proofs.Standing.{stands_at, events-at}
 use Rattle.us_world.proofs.Happenings.{run-append, limit_after, OneEvent}
 use Rattle.us_world.proofs.Leads.{events_more}
@@ -130,8 +129,8 @@ have_world settings lines k so = record { world = so.world; is = so.is }
 report-same : (k : Kept) (w : World) → StandsFor k w → execution_of w.notes ≡ execution_by direct_past (history_of w.notes) → report_of_kept k ≡ report_of w
 report-same k w h direct =
     let execution : execution_by direct_past k.history ≡ execution_of w.notes = ap (execution_by direct_past) (sym h.history) ∙ sym direct in
-    let refused = ap (λ t. map reported t.refused) (sym h.history) in
-    let waits = ap (λ sites. map waiting (waits_of sites)) (sym h.sites) in
+    let refused = ap (λ t. t.refused) (sym h.history) in
+    let waits = ap (λ sites. waits_of sites) (sym h.sites) in
     λ i. record { execution = execution i; refused = refused i; waiting = waits i }
 
 pub report_is : (settings : Settings) → HasOnePartition settings → (lines : List Numbered) (k : Kept) (report : Report) → HasReached settings lines k → ExecutionsAreDirect → report ≡ report_of_kept k

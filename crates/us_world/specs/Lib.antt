@@ -1,5 +1,4 @@
 pub mod ByHand
-pub mod Direct
 pub mod Found
 pub mod Limits
 pub mod Kept

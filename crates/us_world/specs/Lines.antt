@@ -1,15 +1,13 @@
 -- What the lines of a schedule come to by code, and the report at their end.
-use Rattle.std.specs.Prelude.{◌≡◌, ⊤, ℕ, ◌+◌, List, [], ◌∷◌, length, map, Some, None}
+use Rattle.std.specs.Prelude.{◌≡◌, ⊤, ℕ, ◌+◌, List, [], ◌∷◌, length, Some, None}
 use Rattle.us_schedule.specs.declared.line.Line.{Line}
 use Rattle.us_schedule.specs.declared.line.Line.TheVariants as line
-use Rattle.us_exec.specs.declared.WaitingRequest.{WaitingRequest}
 use Rattle.us_report.specs.declared.report.Report.{Report}
 use Rattle.us_model.specs.declared.settings.Settings.{Settings}
-use Rattle.us_model.specs.Worlds.{World, Happening, Waits, waits_of, run}
+use Rattle.us_model.specs.Worlds.{World, Happening, waits_of, run}
 use Rattle.us_model.specs.Executions.{execution_of, refusals_of}
 use Rattle.us_history.specs.Pasts.{direct_past}
 use Rattle.us_history.specs.Executions.{execution_by}
-use Rattle.us_world.specs.Direct.{reported}
 use Rattle.us_world.specs.Kept.{Kept, StandsFor}
 use Rattle.us_world.specs.Limits.{Performs, Begins, delivery, limit_of, IsWorldOf, IsPassedAt}
 use Rattle.us_world.specs.declared.fault.WorldFault.{WorldFault}
@@ -63,15 +61,12 @@ abbrev pub IsDelivery : ℕ → World → List Happening → Type 0
 IsDelivery number w hs = hs ≡ delivery number w
 
 -- THE REPORT OF A WORLD
-abbrev pub waiting : Waits → WaitingRequest
-waiting x = record { session = x.session; at = x.at }
-
 abbrev pub report_of : World → Report
-report_of w = record { execution = execution_of w.notes; refused = map reported (refusals_of w.notes); waiting = map waiting (waits_of w.sites) }
+report_of w = record { execution = execution_of w.notes; refused = refusals_of w.notes; waiting = waits_of w.sites }
 
 -- as it is of what is kept
 abbrev pub report_of_kept : Kept → Report
-report_of_kept k = record { execution = execution_by direct_past k.history; refused = map reported k.history.refused; waiting = map waiting (waits_of k.sites) }
+report_of_kept k = record { execution = execution_by direct_past k.history; refused = k.history.refused; waiting = waits_of k.sites }
 
 -- what is kept stands for the world of the lines
 pub record HasReached (settings : Settings) (lines : List Numbered) (k : Kept) : Type 0 where

@@ -7,7 +7,6 @@ ghost use Rattle.us_snapshots.specs.Ascending.{Ascends};
 ghost use Rattle.us_history.specs.Executions.{entry_of, entries_of, loose_of, loose_one, execution_by};
 ghost use Rattle.us_world.specs.Found.{unlinked_past};
 ghost use Rattle.us_history.specs.Pasts.{direct_past};
-ghost use Rattle.us_world.specs.Direct.{reported};
 ghost use Rattle.us_world.specs.Found.{IsSearchable};
 
 use crate::beginnings::Beginning;
@@ -99,7 +98,7 @@ impl History {
 
     /// The refused requests, in order.
     pub fn refusals(&self, alloc: Global) -> Result<Items<RefusedRequest>, Memory>
-        ensures { IfOk result (λ refusals. refusals ≡ map reported self.now.refused) }
+        ensures { IfOk result (λ refusals. refusals ≡ self.now.refused) }
     {
         let mut refusals = Items::new(alloc);
         for request in self.refused() {

@@ -11,28 +11,10 @@ use crate::performances::{Performance, Performances};
 use std::alloc::Global;
 use std::marker::Model;
 use us_base::Vector;
-use us_exec::{Done, Link, LooseEnd, SessionName};
+use us_exec::{Done, Link, LooseEnd, RefusedRequest, SessionName};
 use us_index::Listed;
 use us_kind::{Items, Memory, Tid};
 use us_model::Note;
-
-/// A request was refused.
-#[derive(Clone, Copy)]
-pub struct RefusedRequest {
-    pub session: SessionName,
-    pub at: u64,
-    pub number: u8,
-}
-
-impl Model for RefusedRequest {
-    ghost use Rattle.us_history.specs.Histories.{Refusal};
-
-    ghost Value = { Refusal };
-
-    ghost view = { λ a. record { session = a.session; at = a.at; number = a.number } };
-
-    ghost inverse = { λ r. record { session = r.session; at = r.at; number = r.number } };
-}
 
 /// What the notes of a run told so far, each kind in order.
 #[derive(Drop)]

@@ -6,7 +6,7 @@ ghost use Rattle.us_model.specs.Executions.{noted_all};
 ghost use Rattle.us_snapshots.specs.Ascending.{Ascends};
 ghost use Rattle.us_world.specs.Kept.{AllMarked, StandsFor, unmarked, site_of, HasStepped, after_at, passed_by, is_due, is_due_at, NoneDue, HasSkipped, HasCome, IsDelivered, LimitSays};
 ghost use Rattle.us_world.specs.Limits.{Delivers, is_opening, is_beginning, opened_in, begun_in};
-ghost use Rattle.us_world.specs.Lines.{waiting, IsBuilt, GoesBy, StoppedBy, IsDelivery, IsPerformed, IsStopped, report_of_kept};
+ghost use Rattle.us_world.specs.Lines.{IsBuilt, GoesBy, StoppedBy, IsDelivery, IsPerformed, IsStopped, report_of_kept};
 
 use crate::numbers::plus;
 use crate::{History, WorldFault};
@@ -19,7 +19,7 @@ use us_peer_wire::Packet;
 use us_report::Report;
 use us_schedule::Line;
 use us_model::Settings;
-use us_site::{Event, Note, Outputs, Site, Unanswered};
+use us_site::{Event, Note, Outputs, Site};
 
 /// The most events of a run.
 const MOST_EVENTS: u64 = Limits::RUN_EVENTS;
@@ -172,28 +172,14 @@ fn first_due(sent: &[Sent], cursor: usize, from: u8, to: u8) -> Option<usize>
 }
 
 /// The sessions that wait, in order.
-fn waits_of(alloc: Global, sites: &[Site]) -> Result<Vec<Unanswered>, Memory>
-    ensures { IfOk result (λ waits. waits.items ≡ waits_of (map site_of sites.now)) }
+fn waits_of(alloc: Global, sites: &[Site]) -> Result<Items<WaitingRequest>, Memory>
+    ensures { IfOk result (λ waits. waits ≡ waits_of (map site_of sites.now)) }
 {
     let mut waits = Vec::new(alloc);
     for site in sites {
         site.put_waits(&mut waits)?;
     }
-    Ok(waits)
-}
-
-/// The sessions that wait, as a report has them.
-fn waiting_of(alloc: Global, waits: &[Unanswered]) -> Result<Items<WaitingRequest>, Memory>
-    ensures { IfOk result (λ told. told ≡ map waiting waits.now) }
-{
-    let mut waiting = Items::new(alloc);
-    for wait in waits {
-        waiting.push(WaitingRequest {
-            session: wait.session,
-            at: wait.at,
-        })?;
-    }
-    Ok(waiting)
+    Ok(Items::of(waits))
 }
 
 /// The sites of a store with these settings, of which nothing has come.
@@ -404,11 +390,10 @@ impl World {
         requires { Ascends self.now.history }
         ensures { IfOk result (λ report. report ≡ report_of_kept self.now) }
     {
-        let waits = waits_of(alloc, self.sites.as_slice())?;
         Ok(Report {
             execution: self.history.execution(alloc)?,
             refused: self.history.refusals(alloc)?,
-            waiting: waiting_of(alloc, waits.as_slice())?,
+            waiting: waits_of(alloc, self.sites.as_slice())?,
         })
     }
 }
