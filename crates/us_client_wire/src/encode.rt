@@ -28,11 +28,7 @@ fn tag_of_request(request: &Request) -> u8
     }
 }
 
-fn put_request_fields(
-    mut out: Vec<u8>,
-    request: &Request,
-    shape: Shape,
-) -> Result<Vec<u8>, Memory>
+fn put_request_fields(mut out: Vec<u8>, request: &Request, shape: Shape) -> Result<Vec<u8>, Memory>
     requires shape { IsShape shape }
     requires fits { RequestFits shape request.now }
     ensures { IfOk result (λ new. new.items ≡ out.items ++ request_fields shape request.now) }

@@ -173,11 +173,7 @@ fn put_tags(out: Vec<u8>, tags: &Items<Tag>, shape: Shape) -> Result<Vec<u8>, Me
     put_list(out, tags.as_slice(), shape)
 }
 
-fn put_effect_fields(
-    mut out: Vec<u8>,
-    effect: &Effect,
-    shape: Shape,
-) -> Result<Vec<u8>, Memory>
+fn put_effect_fields(mut out: Vec<u8>, effect: &Effect, shape: Shape) -> Result<Vec<u8>, Memory>
     requires shape { IsShape shape }
     requires fits { EffectFits shape effect.now }
     ensures { IfOk result (λ new. new.items ≡ out.items ++ effect_fields effect.now) }

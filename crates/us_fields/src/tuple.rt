@@ -6,7 +6,9 @@ ghost use Rattle.us_fields.specs.Lengths.{vector_length};
 ghost use Rattle.us_fields.specs.Tuples.{class_code, class_fields_at, class_at};
 
 use crate::codes::class_code;
-use crate::{DecodeFault, Field, copies_of, list_len, put_item, put_writes, take_item, take_writes};
+use crate::{
+    DecodeFault, Field, copies_of, list_len, put_item, put_writes, take_item, take_writes,
+};
 use std::alloc::Global;
 use us_base::{Shape, Vector};
 use us_kind::{Items, Memory, Tid};
