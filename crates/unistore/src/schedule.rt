@@ -112,9 +112,7 @@ pub fn read_schedule(alloc: Global, text: &[u8]) -> Result<Schedule, Memory>
         }
     };
     match read_config(alloc, parts.before)? {
-        Configured::Store { config } => {
-            read_behind(alloc, config, parts.behind, parts.line + 1)
-        }
+        Configured::Store { config } => { read_behind(alloc, config, parts.behind, parts.line + 1) }
         Configured::Refused { refusal } => Ok(Schedule::Refused { refusal }),
     }
 }

@@ -68,13 +68,13 @@ module _ {E : Type 0} (dec : IsDecided E) (f : ℕ) (p : Past E) (hist : History
           too_short : length (whole c) < length d.log → ⊥
           too_short l = ⊎_elim
               (λ (e : d.ballot ≡ c.accepted). ⊎_elim
-                (λ (w : told.0 ≤ length (whole c)). let y = told.1 in omega arith)
-                (λ bl. never (blocked_more (length d.log) (omega arith) bl))
-                ((g.acks d.ballot told.0 told.2).2 e))
+              (λ (w : told.0 ≤ length (whole c)). let y = told.1 in omega arith)
+              (λ bl. never (blocked_more (length d.log) (omega arith) bl))
+              ((g.acks d.ballot told.0 told.2).2 e))
               (λ (n : d.ballot ≡ c.accepted → ⊥). ⊎_elim
-                (λ (w : length (initial g.log.start) ≤ length (whole c)). let e = g.log.is in let u = up in let b = (begins_with g.log.start g.log.here (omega arith)).0 in omega arith)
-                (λ bl. free c.accepted (length (whole c)) st up (omega arith) bl)
-                g.log.long)
+              (λ (w : length (initial g.log.start) ≤ length (whole c)). let e = g.log.is in let u = up in let b = (begins_with g.log.start g.log.here (omega arith)).0 in omega arith)
+              (λ bl. free c.accepted (length (whole c)) st up (omega arith) bl)
+              g.log.long)
               (cases_eq d.ballot c.accepted)
 
       same : Same (length d.log) (whole c) d.log

@@ -119,19 +119,19 @@ module _ {E : Type 0} (dec : IsDecided E) (f : ℕ) (p : Past E) (hist : History
           let at = put_same p.logs c.ballot l in
           let grows = put_grows p.starts p.logs p.choices c.ballot l (let x = a.0 in let y = longer e in omega arith) (same_trans (same_sym a.1) (same_sym (same_less _ a.0 (same_front (whole c) (e ∷ []))))) in
           append_at e (put p.logs c.ballot l) (logs_owes (put p.logs c.ballot l) grows (own_logs l))
-            (longer_facts (put p.logs c.ballot l) l grows (longer e) (λ n le. let P : List E → Type 0 = λ y. (n ≤ length y) × Same n l y in let r = subst P (sym at) (le, same_refl n l) in is_own r.0 r.1))
-            (let P : List E → Type 0 = λ y. (length y ≤ length l) × Same (length y) l y in inl (subst P (sym at) (omega arith, same_refl _ l)))
-            (own_empty l)
+          (longer_facts (put p.logs c.ballot l) l grows (longer e) (λ n le. let P : List E → Type 0 = λ y. (n ≤ length y) × Same n l y in let r = subst P (sym at) (le, same_refl n l) in is_own r.0 r.1))
+          (let P : List E → Type 0 = λ y. (length y ≤ length l) × Same (length y) l y in inl (subst P (sym at) (omega arith, same_refl _ l)))
+          (own_empty l)
       on (inr bl) =
           let l = whole c ++ e ∷ [] in
           let grows : Grows p.starts p.starts p.logs p.logs p.choices p.choices = record { starts = λ h i. i; longer = λ b. omega arith; same = λ b. same_refl _ (p.logs b); choices = λ c i. i } in
           append_at e p.logs (logs_owes p.logs grows (λ x. inr refl))
-            (longer_facts p.logs l grows (longer e) (λ n le. ⊎_elim
-              (λ (a : n ≤ length (whole c)). log_ok_same p.starts p.logs p.choices c.ballot l (whole c) n (same_less n a (same_front (whole c) (e ∷ []))) (mine.at_each n a))
-              (λ (a : length (whole c) < n). is_blocked (blocked_more n (omega arith) bl))
-              (le_or_lt n (length (whole c)))))
-            (inr (blocked_more _ (longer e) bl))
-            hist.empty
+          (longer_facts p.logs l grows (longer e) (λ n le. ⊎_elim
+          (λ (a : n ≤ length (whole c)). log_ok_same p.starts p.logs p.choices c.ballot l (whole c) n (same_less n a (same_front (whole c) (e ∷ []))) (mine.at_each n a))
+          (λ (a : length (whole c) < n). is_blocked (blocked_more n (omega arith) bl))
+          (le_or_lt n (length (whole c)))))
+          (inr (blocked_more _ (longer e) bl))
+          hist.empty
 
   -- ADVANCE: what f + 1 sites hold is chosen
   module _ (k : ℕ) (some : 0 < k) (fits : k ≤ length c.tail) (enough : f ≤ backers acks (length c.chosen + k)) where
@@ -258,8 +258,8 @@ module _ {E : Type 0} (dec : IsDecided E) (f : ℕ) (p : Past E) (hist : History
             role = subst (RoleOk f p' s c') (sym leads) (record { owns = h.owns; same = h.same; leading = subst (IsLeading p' c.ballot) (sym parted) leading; acks = acks_later f p p' s o s c.ballot acks h.acks });
             owned = g.owned;
             acks = λ b m i. subst (λ y. AckIs p' c.accepted y b m) (sym parted) (⊎_elim
-              (λ (e : Ack c.ballot s (length (whole c)) ≡ Ack b s m). let x : c.ballot ≡ b = cc in let y : length (whole c) ≡ m = cc in let z = h.same in (omega arith, subst (IsStarted p.starts) x begun, λ q. inl (omega arith)))
-              (λ j. ack_later c.accepted (whole c) b m o.grows (g.acks b m j)) i);
+                (λ (e : Ack c.ballot s (length (whole c)) ≡ Ack b s m). let x : c.ballot ≡ b = cc in let y : length (whole c) ≡ m = cc in let z = h.same in (omega arith, subst (IsStarted p.starts) x begun, λ q. inl (omega arith)))
+                (λ j. ack_later c.accepted (whole c) b m o.grows (g.acks b m j)) i);
           };
           sends = to_others_ok f s here p' c g.f_is g.site_is (Learn (count c + 1) (take k c.tail)) (record {
             log = c.chosen ++ take k c.tail;

@@ -122,7 +122,7 @@ module _ {E : Type 0} (dec : IsDecided E) (f : ℕ) (p : Past E) (hist : History
         reached = g.reached;
         acc = omega arith;
         log = subst (LogIs p c.ballot) is (merged_log dec (sites f) p.starts p.logs p.choices p.told hist.starts hist.choices hist.started c.ballot c.chosen h.log
-          (λ n k. chosen_log dec (sites f) p.starts p.logs p.choices p.told hist.starts hist.choices hist.started c.chosen g.chosen c.ballot (started_at c.ballot h.log h.facts) n k) h.facts);
+            (λ n k. chosen_log dec (sites f) p.starts p.logs p.choices p.told hist.starts hist.choices hist.started c.chosen g.chosen c.ballot (started_at c.ballot h.log h.facts) n k) h.facts);
         chosen = g.chosen;
         role = subst (RoleOk f p s (record c { tail = drop (length c.chosen - base) tail; accepted = c.ballot })) (sym follows) tt;
         owned = λ x i e. let y = g.owned x i e in omega arith;
@@ -238,4 +238,4 @@ module _ {E : Type 0} (dec : IsDecided E) (f : ℕ) (p : Past E) (hist : History
       each : (n : ℕ) → n ≤ length (whole c ++ e ∷ []) → LogOk p.starts p.logs p.choices c.accepted (whole c ++ e ∷ []) n
       each n k = subst (λ a. LogOk p.starts p.logs p.choices a (whole c ++ e ∷ []) n) (sym same)
           (log_ok_same p.starts p.logs p.choices c.ballot (whole c ++ e ∷ []) (merged (whole c) h.log) n (same_less n (omega (arith, length-append (whole c) (e ∷ []))) like)
-            (both.at_each n (let x = inside in omega (arith, length-append (whole c) (e ∷ []), length-merged (whole c) h.log))))
+          (both.at_each n (let x = inside in omega (arith, length-append (whole c) (e ∷ []), length-merged (whole c) h.log))))

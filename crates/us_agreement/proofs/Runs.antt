@@ -130,8 +130,8 @@ module _ {E : Type 0} (eq : E → E → Bool) (decides : (x y : E) → Decides (
             let there = in_got w.sent k x e in
             let ok = h.facts.sent x there in
             cond_both (acts f w x.to) (stepped w x.to (take_message eq (w.at x.to) x.from x.message)) w (WorldOk f)
-              (λ t. take_does dec f x.to (acting w x.to t) (x ∷ []) eq decides (w.at x.to) x.from x.message (λ p given. given x (inl refl)) ok.apart w.at w.sent refl h (λ y i. ⊎_elim (λ q. subst (λ z. In z w.sent) q there) (λ n. absurd n) i))
-              (λ t. h)
+            (λ t. take_does dec f x.to (acting w x.to t) (x ∷ []) eq decides (w.at x.to) x.from x.message (λ p given. given x (inl refl)) ok.apart w.at w.sent refl h (λ y i. ⊎_elim (λ q. subst (λ z. In z w.sent) q there) (λ n. absurd n) i))
+            (λ t. h)
 
     run_ok : (hs : List (Happening E)) (w : World E) → WorldOk f w → WorldOk f (run eq f hs w)
     run_ok [] w h = h

@@ -304,8 +304,8 @@ fn plans(rt: HostRuntime) -> Result<(), Fail> {
 fn plan_of_a_site(rt: HostRuntime) -> Result<(), Fail> {
     let text = "sites = 3\n[node]\npeers = ['a:1', 'b:2', 'c:3']";
     let config = read(rt.alloc(), text.as_bytes())?;
-    let sites = config.shape.sites();
-    assert_eq!(rt; sites, 3);
+    let clients = config.plan.clients.as_slice().len();
+    assert_eq!(rt; clients, 3);
     let plan = config.plan_for(rt.alloc(), 2)?;
     assert_eq!(rt; plan.site, 2);
     assert_eq!(rt; plan.clients.as_str(), "127.0.0.1:7202");

@@ -9,7 +9,7 @@ use Rattle.us_migrate.specs.Spellings.{tid_spelling, IsOneOf, TidFits}
 use Rattle.us_client_wire.specs.declared.frame.Reply.TheVariants.{Started, Answered, Committed, Dropped, Refused}
 use Rattle.us_client_wire.specs.Fields.{answer_spelling, AnswerFits}
 use Rattle.us_client_wire.specs.Replies.{ReplyFits}
-use Rattle.us_client_wire.proofs.AnswerLengths.{answers-are-as-long}
+use Rattle.us_fields.proofs.AnswerLengths.{answers-are-as-long}
 
 pub started_fits : (shape : Shape) (at : ℕ) (tid : Tid) → at < 2 ^ 64 → TidFits shape tid → ReplyFits shape (Started at tid)
 started_fits shape at tid small fits = record { at = small; told = fits; short = record { short = omega (arith, length-append (to_be_bytes w64 at) (tid_spelling tid)) } }

@@ -2,7 +2,7 @@
 ghost use Rattle.std.specs.Prelude.{◌≡◌, ◌<◌, ◌≤◌, ◌^◌, IfOk, IsTrue, None, Some, Err};
 ghost use Rattle.us_base.specs.Shape.{IsShape};
 ghost use Rattle.us_migrate.specs.Spellings.{IsOneOf, TidFits};
-ghost use Rattle.us_client_wire.specs.declared.fault.DecodeFault.{DecodeFault};
+ghost use Rattle.us_fields.specs.declared.fault.DecodeFault.{DecodeFault};
 ghost use Rattle.us_value.specs.Lengths.{answer_length};
 ghost use Rattle.us_client_wire.specs.Fields.{AnswerFits};
 ghost use Rattle.us_client_wire.specs.Requests.{request_of};

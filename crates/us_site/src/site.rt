@@ -126,11 +126,7 @@ fn actor_in(event: &Event) -> u8
 }
 
 /// The sessions that wait at a site's actors, in order, are put behind those that are there.
-fn put_waits_at(
-    site: u8,
-    shards: &[Shard],
-    waits: &mut Vec<WaitingRequest>,
-) -> Result<(), Memory>
+fn put_waits_at(site: u8, shards: &[Shard], waits: &mut Vec<WaitingRequest>) -> Result<(), Memory>
     requires { length shards.now ≤ 16 }
     ensures { OnOk result (waits.new.items ≡ waits.old.items ++ waits_at site 1 shards.now) }
 {

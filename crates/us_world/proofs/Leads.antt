@@ -38,9 +38,13 @@ events_more [] l w es own are performs =
 events_more (x ∷ xs) l w es own are performs =
     let first = are.0 in
     let others = are.1 in
-    let same : run es w ≡ run others (run first w) = ap (λ hs. run hs w) are.3 ∙ run-append first others w in
-    (first, others ++ own, are.2, ap (λ hs. hs ++ own) are.3 ∙ append_assoc first others own,
-    events_more xs l (run first w) others own are.4 (subst (λ v. Performs l.line v own) same performs))
+    let same : run es w ≡ run others (run first w) = ap (λ hs. run hs w) are.3 ∙ run-append first others w in (
+      first,
+      others ++ own,
+      are.2,
+      ap (λ hs. hs ++ own) are.3 ∙ append_assoc first others own,
+      events_more xs l (run first w) others own are.4 (subst (λ v. Performs l.line v own) same performs),
+    )
 
 none-first : (a b : Option WorldFault) → or_else a b ≡ None → a ≡ None
 none-first None b e = refl
@@ -63,9 +67,13 @@ run-parts es own others w is = ap (λ hs. run hs w) is ∙ run-append own others
 pub leads_reach : (lines : List Numbered) (n : ℕ) (w : World) (es : List Happening) → AreEventsOf lines w es → limit_of n es w ≡ None → Leads lines n w (Reaches (run es w))
 leads_reach [] n w es are within = ap (λ hs. Reaches (run hs w)) are
 leads_reach (l ∷ ls) n w es are within =
-    inl (are.0, are.2, within-first n es are.0 are.1 w are.3 within,
-    subst (λ v. Leads ls (n + length are.0) (run are.0 w) (Reaches v)) (sym (run-parts es are.0 are.1 w are.3))
-    (leads_reach ls (n + length are.0) (run are.0 w) are.1 are.4 (within-others n es are.0 are.1 w are.3 within)))
+    inl (
+      are.0,
+      are.2,
+      within-first n es are.0 are.1 w are.3 within,
+      subst (λ v. Leads ls (n + length are.0) (run are.0 w) (Reaches v)) (sym (run-parts es are.0 are.1 w are.3))
+          (leads_reach ls (n + length are.0) (run are.0 w) are.1 are.4 (within-others n es are.0 are.1 w are.3 within)),
+    )
 
 pub leads_past : (before : List Numbered) (l : Numbered) (after : List Numbered) (n : ℕ) (w : World) (es own : List Happening) (which : WorldFault) → AreEventsOf before w es
     → limit_of n es w ≡ None → Begins l.line (run es w) own → limit_of (n + length es) own (run es w) ≡ Some which → Leads (before ++ l ∷ after) n w (Passes l.number which)
@@ -79,5 +87,9 @@ leads_past (x ∷ xs) l after n w es own which are within begins past =
     let same = run-parts es are.0 are.1 w are.3 in
     let counted : n + length es ≡ n + length are.0 + length are.1 = let e = ap length are.3 ∙ length-append are.0 are.1 in omega arith in
     let there : limit_of (n + length are.0 + length are.1) own (run are.1 v) ≡ Some which = (λ i. limit_of (sym counted i) own (sym same i)) ∙ past in
-    inl (are.0, are.2, within-first n es are.0 are.1 w are.3 within,
-    leads_past xs l after (n + length are.0) v are.1 own which are.4 (within-others n es are.0 are.1 w are.3 within) (subst (λ u. Begins l.line u own) same begins) there)
+    inl (
+      are.0,
+      are.2,
+      within-first n es are.0 are.1 w are.3 within,
+      leads_past xs l after (n + length are.0) v are.1 own which are.4 (within-others n es are.0 are.1 w are.3 within) (subst (λ u. Begins l.line u own) same begins) there,
+    )

@@ -15,10 +15,10 @@ use std::marker::Model;
 use us_base::Limits;
 use us_exec::WaitingRequest;
 use us_kind::{Bytes, Items, Memory};
+use us_model::Settings;
 use us_peer_wire::Packet;
 use us_report::Report;
 use us_schedule::Line;
-use us_model::Settings;
 use us_site::{Event, Note, Outputs, Site};
 
 /// The most events of a run.
