@@ -1,14 +1,13 @@
 -- Replies are read as they are spelled.
-use Rattle.std.proofs.Common.{◌≡◌, ℕ, ◌+◌, ◌^◌, ◌<◌, ◌≤◌, ◌==◌, Bool, true, false, List, [], ◌∷◌, ◌++◌, length, Option, Some, None, refl, sym, ap, ◌∙◌, arith}
+use Rattle.std.proofs.Common.{◌≡◌, ℕ, ◌^◌, ◌<◌, ◌≤◌, ◌==◌, true, false, [], ◌∷◌, Some, refl, sym, ◌∙◌, arith}
 use Rattle.std.specs.Int.{w8, w64, to_be_bytes}
 use Rattle.std.proofs.lemmas.Bool.{eqb-true}
 use Rattle.us_kind.specs.declared.identity.Tid.{Tid}
 use Rattle.us_base.specs.declared.shape.Shape.{Shape}
 use Rattle.us_base.specs.Shape.{IsShape}
 use Rattle.us_wire.specs.Fields.{number_at}
-use Rattle.us_wire.specs.Readings.{Reading, and_then, number_between_at, Reads, ReadsOn}
-use Rattle.us_wire.specs.Whole.{IsShort, ReadsFrames}
-use Rattle.us_wire.proofs.Combined.{on, refit, refit_on, reads_then, reads_made, reads_made_two, reads_nothing, reads_none, reads_either}
+use Rattle.us_wire.specs.Readings.{and_then, number_between_at, Reads, ReadsOn}
+use Rattle.us_wire.proofs.Combined.{on, refit, reads_then, reads_made, reads_made_two, reads_nothing, reads_none, reads_either}
 use Rattle.us_wire.proofs.WholeFrames.{reads_tagged, reads_frames}
 use Rattle.us_migrate.specs.declared.token.Token.{Token}
 use Rattle.us_migrate.specs.Spellings.{tid_spelling, token_spelling, IsOneOf, TidFits, TokenFits}

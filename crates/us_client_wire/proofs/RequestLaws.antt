@@ -1,11 +1,10 @@
 -- Requests are read as they are spelled.
-use Rattle.std.proofs.Common.{◌≡◌, ℕ, ◌+◌, ◌<◌, ◌≤◌, ◌==◌, Bool, true, false, List, [], ◌∷◌, ◌++◌, length, Option, Some, None, refl, sym, ap, ◌∙◌, arith, length-append}
+use Rattle.std.proofs.Common.{◌≡◌, ℕ, ◌≤◌, ◌==◌, true, false, [], length, Some, refl, sym, ◌∙◌, arith, length-append}
 use Rattle.std.proofs.lemmas.Bool.{eqb-true}
 use Rattle.us_base.specs.declared.shape.Shape.{Shape}
-use Rattle.us_base.specs.Shape.{IsShape, sites_of}
-use Rattle.us_wire.specs.Readings.{Reading, and_then, Reads, ReadsOn}
-use Rattle.us_wire.specs.Fields.{longest_value}
-use Rattle.us_wire.specs.Whole.{IsShort, ReadsFrames}
+use Rattle.us_base.specs.Shape.{IsShape}
+use Rattle.us_wire.specs.Readings.{and_then, ReadsOn}
+use Rattle.us_wire.specs.Whole.{IsShort}
 use Rattle.us_wire.proofs.Combined.{on, reads_made, reads_made_two, reads_nothing, reads_none, reads_either}
 use Rattle.us_wire.proofs.WholeFrames.{reads_tagged, reads_frames}
 use Rattle.us_migrate.specs.declared.token.Token.{Token}

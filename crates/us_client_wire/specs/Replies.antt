@@ -1,5 +1,5 @@
 -- Replies: how a frame spells one, and which reply a frame is.
-use Rattle.std.specs.Prelude.{◌≡◌, ℕ, ◌<◌, ◌^◌, List, [], ◌∷◌, ◌++◌, ◌==◌, Option, None, Some, if◌then◌else◌}
+use Rattle.std.specs.Prelude.{ℕ, ◌<◌, ◌^◌, List, [], ◌∷◌, ◌++◌, ◌==◌, Option, None, Some, if◌then◌else◌}
 use Rattle.std.specs.Int.{to_be_bytes, w8, w64}
 use Rattle.us_base.specs.declared.shape.Shape.{Shape}
 use Rattle.us_wire.specs.Fields.{number_at}

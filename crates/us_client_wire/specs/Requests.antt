@@ -1,5 +1,5 @@
 -- Requests: how a frame spells one, and which request a frame is.
-use Rattle.std.specs.Prelude.{◌≡◌, ℕ, List, [], ◌++◌, ◌==◌, Option, None, Some, if◌then◌else◌}
+use Rattle.std.specs.Prelude.{ℕ, List, [], ◌++◌, ◌==◌, Option, None, Some, if◌then◌else◌}
 use Rattle.us_base.specs.declared.shape.Shape.{Shape}
 use Rattle.us_wire.specs.Readings.{Reading, and_then}
 use Rattle.us_wire.specs.Whole.{frame_spelling, frame_of}

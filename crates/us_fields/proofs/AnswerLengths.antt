@@ -1,9 +1,8 @@
 -- The length of an answer's spelling.
-use Rattle.std.proofs.Common.{◌≡◌, ℕ, ◌+◌, List, [], ◌∷◌, ◌++◌, Bool, true, false, length, length-append, refl, ap, ◌∙◌, arith}
+use Rattle.std.proofs.Common.{◌≡◌, ℕ, ◌+◌, List, [], ◌∷◌, Bool, true, false, length, length-append, refl, ap, ◌∙◌, arith}
 use Rattle.std.specs.Int.{to_be_bytes, w16, w32}
 use Rattle.us_wire.specs.Fields.{value}
 use Rattle.us_wire.specs.Readings.{many_spelling}
-use Rattle.us_value.specs.declared.operation.Answer.{Answer}
 use Rattle.us_value.specs.declared.operation.Answer.TheVariants as answer
 use Rattle.us_value.specs.Lengths.{value_length, all_lengths, answer_length}
 use Rattle.us_fields.specs.Fields.{answer_spelling, values_spelling}

@@ -1,22 +1,21 @@
 -- Effects and writes are read as they are spelled.
-use Rattle.std.proofs.Common.{◌≡◌, ℕ, ℤ, zero, suc, ◌≤◌, ◌==◌, Bool, true, List, [], ◌∷◌, ◌++◌, length, Some, None, refl, sym, ap, ◌∙◌, arith}
+use Rattle.std.proofs.Common.{◌≡◌, ℕ, ℤ, zero, suc, ◌≤◌, List, [], ◌∷◌, ◌++◌, length, refl, arith}
 use Rattle.std.specs.Prelude.{FitsSigned}
 use Rattle.std.specs.Int.{w8, w64}
 use Rattle.us_kind.specs.declared.identity.Tag.{Tag}
 use Rattle.us_base.specs.declared.shape.Shape.{Shape}
 use Rattle.us_base.specs.Shape.{IsShape}
 use Rattle.us_wire.specs.Fields.{integer, integer_at, value, value_at, longest_value}
-use Rattle.us_wire.specs.Readings.{Reading, number_between_at, Reads, ReadsOn}
+use Rattle.us_wire.specs.Readings.{number_between_at, Reads, ReadsOn}
 use Rattle.us_wire.proofs.Combined.{refit, reads_made}
 use Rattle.us_migrate.specs.Spellings.{tid_spelling, IsOneOf, TidFits}
 use Rattle.us_migrate.specs.Readings.{tid_at}
 use Rattle.us_migrate.proofs.Spelled.{reads_tids}
-use Rattle.us_value.specs.declared.item.Write.{Write}
 use Rattle.us_value.specs.declared.operation.Effect.{Effect}
 use Rattle.us_value.specs.declared.operation.Effect.TheVariants as effect
 use Rattle.us_fields.specs.Fields.{item_spelling, ItemFits}
 use Rattle.us_fields.specs.FieldReadings.{item_at}
-use Rattle.us_fields.specs.Lists.{both_at, made_at, list_spelling, ListFits, list_at, longest_list, is_in_order}
+use Rattle.us_fields.specs.Lists.{both_at, ListFits, list_at, longest_list}
 use Rattle.us_fields.specs.Effects.{places, tag_spelling, TagFits, tag_at, tag_before, tags_spelling, TagsFit, tags_at, effect_code, effect_fields, effect_spelling, EffectFits, effect_fields_at, effect_at, write_spelling, WriteFits, write_at, write_before, writes_spelling, WritesFit, writes_at}
 use Rattle.us_fields.specs.Laws.{ReadsEffects, ReadsWrites}
 use Rattle.us_fields.proofs.FieldLaws.{one_of, amounts, values, reads_items}

@@ -1,5 +1,5 @@
 -- Items, operations and answers are read as they are spelled.
-use Rattle.std.proofs.Common.{◌≡◌, ℕ, ℤ, zero, suc, ◌+◌, ◌^◌, ◌<◌, ◌≤◌, ◌==◌, ◌&&◌, Bool, true, false, cond, leb, List, [], ◌∷◌, ◌++◌, length, take, drop, Option, Some, None, refl, sym, ap, subst, ◌∙◌, arith}
+use Rattle.std.proofs.Common.{◌≡◌, ℕ, ℤ, zero, suc, ◌+◌, ◌^◌, ◌<◌, ◌≤◌, ◌==◌, Bool, true, false, cond, leb, List, [], ◌∷◌, length, take, drop, Option, Some, None, refl, sym, ap, subst, ◌∙◌, arith}
 use Rattle.std.specs.Prelude.{FitsSigned}
 use Rattle.std.specs.Int.{w8, w32, w64, w128, to_be_bytes}
 use Rattle.std.specs.List.{AllByRecursion}
@@ -8,8 +8,8 @@ use Rattle.std.proofs.lemmas.List.{length-take-le, length-drop}
 use Rattle.us_kind.specs.Words.{bytes_less}
 use Rattle.us_kind.specs.Updates.{All, AllLater}
 use Rattle.us_kind.specs.Orders.{bytes_trans}
-use Rattle.us_wire.specs.Fields.{StandsAt, AreBytes, number_at, integer_at, integer, value, value_at, longest_value}
-use Rattle.us_wire.specs.Readings.{Reading, and_then, if_passes, many_at, many_spelling, number_between_at, Reads, ReadsOn}
+use Rattle.us_wire.specs.Fields.{StandsAt, number_at, integer_at, integer, value, value_at, longest_value}
+use Rattle.us_wire.specs.Readings.{and_then, if_passes, many_at, many_spelling, number_between_at, Reads, ReadsOn}
 use Rattle.us_wire.proofs.Spelled.{Stands-cut, Stands-front, wide32, wide64, wide128, reads_numbers, reads_integers, reads_values}
 use Rattle.us_wire.proofs.Combined.{on, reads, refit, refit_on, reads_then, reads_made, reads_nothing, reads_none, reads_either, reads_passing_on, reads_many, reads_byte, found_one}
 use Rattle.us_migrate.specs.Spellings.{IsOneOf}
@@ -19,7 +19,7 @@ use Rattle.us_value.specs.declared.operation.Op.TheVariants as op
 use Rattle.us_value.specs.declared.operation.Answer.{Answer}
 use Rattle.us_value.specs.declared.operation.Answer.TheVariants as answer
 use Rattle.us_fields.specs.Fields.{id_spelling, item_spelling, ItemFits, op_code, op_fields, op_spelling, OpFits, answer_code, answer_fields, answer_spelling, AnswerFits, ValuesFit, values_spelling, bit_spelling}
-use Rattle.us_fields.specs.FieldReadings.{cut_at, id_at, item_at, op_fields_at, op_at, is_below_first, is_ascending, values_at, answer_fields_at, answer_at}
+use Rattle.us_fields.specs.FieldReadings.{cut_at, id_at, item_at, op_fields_at, op_at, is_ascending, values_at, answer_fields_at, answer_at}
 use Rattle.us_fields.specs.Laws.{ReadsItems, ReadsOps, ReadsAnswers}
 
 -- ---- bytes, numbers, values

@@ -1,5 +1,5 @@
 -- The lengths of spellings.
-use Rattle.std.proofs.Common.{◌≡◌, ℕ, suc, ◌+◌, ◌*◌, ◌≤◌, List, [], ◌∷◌, ◌++◌, length, take, length-append, refl, ap, ◌∙◌, arith}
+use Rattle.std.proofs.Common.{◌≡◌, ℕ, suc, ◌+◌, ◌*◌, List, [], ◌∷◌, length, take, length-append, refl, arith}
 use Rattle.std.specs.Int.{to_be_bytes, w16, w64}
 use Rattle.std.specs.List.{AllByRecursion}
 use Rattle.std.proofs.lemmas.List.{length-take-le}
@@ -16,8 +16,8 @@ use Rattle.us_value.specs.declared.operation.Class.{Class}
 use Rattle.us_value.specs.declared.operation.Effect.{Effect}
 use Rattle.us_value.specs.declared.operation.Effect.TheVariants as effect
 use Rattle.us_value.specs.Lengths.{tags_length, effect_length, write_length}
-use Rattle.us_fields.specs.Lists.{list_spelling, ListFits}
-use Rattle.us_fields.specs.Effects.{places, tag_spelling, tags_spelling, effect_fields, effect_spelling, write_spelling, WriteFits, writes_spelling, WritesFit}
+use Rattle.us_fields.specs.Lists.{list_spelling}
+use Rattle.us_fields.specs.Effects.{tag_spelling, tags_spelling, effect_spelling, write_spelling, WriteFits, writes_spelling, WritesFit}
 use Rattle.us_fields.specs.Tuples.{own_spelling, OwnFits, class_code, touch_spelling, TouchFits, committed_spelling, CommittedFits}
 use Rattle.us_fields.specs.Lengths.{sum_of_sizes, list_length, vector_length, own_length, touch_length, committed_length, WritesAreAsLong}
 use Rattle.us_fields.proofs.AnswerLengths.{value-length}

@@ -1,12 +1,12 @@
 -- Fields that are made of fields are read as they are spelled.
-use Rattle.std.proofs.Common.{◌≡◌, ℕ, zero, suc, ◌+◌, ◌^◌, ◌<◌, ◌≤◌, ◌%◌, ◌==◌, ◌⊎◌, inl, inr, Bool, true, false, cond, List, [], ◌∷◌, ◌++◌, length, Option, Some, None, refl, sym, ap, subst, ◌∙◌, arith}
+use Rattle.std.proofs.Common.{◌≡◌, ℕ, suc, ◌^◌, ◌<◌, ◌≤◌, ◌%◌, ◌==◌, ◌⊎◌, inl, inr, Bool, true, false, cond, List, [], ◌∷◌, ◌++◌, length, Option, Some, None, refl, sym, ap, subst, ◌∙◌, arith}
 use Rattle.std.specs.Int.{w8, w16, w64, to_be_bytes}
 use Rattle.std.specs.List.{AllByRecursion}
 use Rattle.std.proofs.lemmas.Bool.{eqb-true, eq-eqb, cases_lt}
 use Rattle.us_wire.specs.Fields.{StandsAt, number_at}
-use Rattle.us_wire.specs.Readings.{Reading, and_then, if_passes, many_at, many_spelling, number_between_at, largest_number, Reads, ReadsOn, IsBetween}
+use Rattle.us_wire.specs.Readings.{Reading, and_then, many_at, many_spelling, number_between_at, largest_number, Reads, ReadsOn, IsBetween}
 use Rattle.us_wire.proofs.Spelled.{some, wide8, wide16, wide64, reads_numbers}
-use Rattle.us_wire.proofs.Combined.{on, split, found_one, reads, refit, refit_on, reads_then, reads_made, reads_made_two, reads_nothing, reads_none, reads_either, reads_passing, reads_many, reads_between}
+use Rattle.us_wire.proofs.Combined.{on, split, found_one, reads, refit, reads_then, reads_made, reads_made_two, reads_nothing, reads_none, reads_either, reads_passing, reads_many, reads_between}
 use Rattle.us_fields.specs.Lists.{both_at, made_at, coded_at, list_spelling, ListFits, list_at, is_in_order, ordered_at}
 
 -- ---- bytes and numbers

@@ -1,5 +1,5 @@
 -- How effects and writes are spelled, which have a spelling, and which stands at a place.
-use Rattle.std.specs.Prelude.{◌≡◌, ℕ, ◌≤◌, ◌==◌, List, [], ◌∷◌, ◌++◌, length, Bool, true, nat_lt, FitsSigned, Option, Some, None, if◌then◌else◌}
+use Rattle.std.specs.Prelude.{◌≡◌, ℕ, ◌≤◌, ◌==◌, List, [], ◌∷◌, ◌++◌, length, Bool, true, nat_lt, FitsSigned, Some, None, if◌then◌else◌}
 use Rattle.std.specs.Int.{w8, w64}
 use Rattle.std.specs.Ordering.{is_lt}
 use Rattle.us_kind.specs.declared.identity.Tag.{Tag}

@@ -1,5 +1,5 @@
 -- Which item, operation or answer stands at a place.
-use Rattle.std.specs.Prelude.{◌≡◌, ℕ, ℤ, ◌+◌, List, [], ◌∷◌, length, take, drop, Bool, true, false, ◌&&◌, ◌==◌, nat_le, Option, None, Some, if◌then◌else◌}
+use Rattle.std.specs.Prelude.{ℕ, ◌+◌, List, [], ◌∷◌, length, take, drop, Bool, true, ◌&&◌, ◌==◌, nat_le, None, Some, if◌then◌else◌}
 use Rattle.std.specs.Int.{w8, w32, w64, w128}
 use Rattle.us_kind.specs.Words.{bytes_less}
 use Rattle.us_wire.specs.Fields.{number_at, integer_at, value_at}

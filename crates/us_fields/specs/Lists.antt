@@ -1,5 +1,5 @@
 -- Fields that are made of fields: one behind the other, a code and what it tells, lists behind a count of two bytes.
-use Rattle.std.specs.Prelude.{◌≡◌, ℕ, ◌≤◌, List, [], ◌∷◌, ◌++◌, length, Bool, true, ◌&&◌, Option, Some}
+use Rattle.std.specs.Prelude.{ℕ, ◌≤◌, List, [], ◌∷◌, ◌++◌, length, Bool, true, ◌&&◌, Some}
 use Rattle.std.specs.Int.{to_be_bytes, w8, w16}
 use Rattle.std.specs.List.{AllByRecursion}
 use Rattle.us_wire.specs.Fields.{number_at}

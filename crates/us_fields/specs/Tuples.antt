@@ -1,5 +1,5 @@
 -- Pairs and triples of which packets hold lists: how each is spelled, which have a spelling, and which stands at a place.
-use Rattle.std.specs.Prelude.{◌≡◌, ℕ, ◌≤◌, ◌==◌, List, [], ◌∷◌, ◌++◌, Bool, nat_le, Option, Some, None, if◌then◌else◌}
+use Rattle.std.specs.Prelude.{ℕ, ◌≤◌, ◌==◌, List, [], ◌∷◌, ◌++◌, Bool, nat_le, Some, None, if◌then◌else◌}
 use Rattle.std.specs.Int.{w8}
 use Rattle.us_kind.specs.declared.identity.Tid.{Tid}
 use Rattle.us_base.specs.declared.shape.Shape.{Shape}

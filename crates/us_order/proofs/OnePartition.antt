@@ -1,8 +1,7 @@
 -- Where there is one partition, it keeps every item.
-use Rattle.std.proofs.Common.{◌≡◌, ℕ, ◌+◌, ◌%◌, List, [], ◌∷◌, Bool, true, filter, refl, ap, sym, ◌∙◌, arith, cond, ◌==◌}
-use Rattle.std.specs.List.{list_any, range_with_len}
+use Rattle.std.proofs.Common.{◌≡◌, ℕ, List, [], ◌∷◌, true, filter, refl, ap, ◌∙◌, arith, cond, ◌==◌}
+use Rattle.std.specs.List.{range_with_len}
 use Rattle.us_base.specs.declared.shape.Shape.{Shape}
-use Rattle.us_base.specs.Vector.{sum_of}
 use Rattle.us_base.specs.Place.{place_of}
 use Rattle.us_value.specs.declared.item.Item.{Item}
 use Rattle.us_value.specs.declared.item.Write.{Write}

@@ -1,14 +1,13 @@
 -- Messages are read as they are spelled.
-use Rattle.std.proofs.Common.{◌≡◌, ℕ, zero, suc, ◌≤◌, ◌<◌, ◌==◌, Bool, true, false, cond, List, [], ◌∷◌, ◌++◌, Some, None, refl, sym, ap, ◌∙◌, ◌⊎◌, inl, inr, arith}
+use Rattle.std.proofs.Common.{◌≡◌, ℕ, zero, suc, ◌≤◌, ◌<◌, true, List, [], ◌∷◌, refl, arith}
 use Rattle.std.specs.Prelude.{nat_lt}
-use Rattle.std.specs.Int.{w8, w64}
-use Rattle.std.proofs.lemmas.Bool.{cases_lt}
+use Rattle.std.specs.Int.{w8}
 use Rattle.std.proofs.lemmas.Bool.Decides.{nat_tests}
 use Rattle.us_kind.specs.declared.identity.Tid.{Tid}
 use Rattle.us_base.specs.declared.shape.Shape.{Shape}
 use Rattle.us_base.specs.Shape.{IsShape, sites_of}
 use Rattle.us_wire.specs.Fields.{number_at}
-use Rattle.us_wire.specs.Readings.{Reading, number_between_at, Reads, ReadsOn}
+use Rattle.us_wire.specs.Readings.{Reading, number_between_at, ReadsOn}
 use Rattle.us_wire.proofs.Combined.{reads_either, reads_passing}
 use Rattle.us_migrate.specs.Spellings.{tid_spelling, vector_spelling, IsOneOf, TidFits, VectorFits}
 use Rattle.us_migrate.specs.Readings.{tid_at, vector_at}
@@ -32,7 +31,7 @@ use Rattle.us_peer_wire.specs.declared.message.OutcomeEnd.{OutcomeEnd}
 use Rattle.us_peer_wire.specs.declared.message.Page.{Page}
 use Rattle.us_fields.specs.Tuples.{own_spelling, OwnFits, own_at, committed_spelling, CommittedFits, committed_at, committed_before}
 use Rattle.us_peer_wire.specs.Parts.{form_spelling, FormFits, form_at, entry_spelling, EntryFits, entry_at, page_spelling, PageFits, page_at, end_spelling, EndFits, end_at}
-use Rattle.us_peer_wire.specs.Messages.{message_tag, number, most_slots, message_fields, IsNumber, BatchFits, MessageFits, a_number, get_at, version_at, prepare_at, prepared_at, commit_at, replicate_at, known_local_at, outcome_at, deliver_at, promise_at, new_state_at, accept_at, accepted_at, learn_at, early_fields_at, late_fields_at, message_fields_at}
+use Rattle.us_peer_wire.specs.Messages.{message_tag, number, most_slots, message_fields, IsNumber, MessageFits, a_number, get_at, version_at, prepare_at, prepared_at, commit_at, replicate_at, known_local_at, outcome_at, deliver_at, promise_at, new_state_at, accept_at, accepted_at, learn_at, early_fields_at, late_fields_at, message_fields_at}
 use Rattle.us_peer_wire.proofs.PartLaws.{reads_sites, reads_own, reads_forms, reads_entries, reads_committed, reads_pages, reads_ends}
 
 -- a message with this tag, that has a spelling

@@ -1,12 +1,11 @@
 -- Packets are read as they are spelled.
-use Rattle.std.proofs.Common.{◌≡◌, ℕ, List, ◌++◌, refl}
+use Rattle.std.proofs.Common.{◌≡◌, ℕ, refl}
 use Rattle.us_base.specs.declared.shape.Shape.{Shape}
 use Rattle.us_base.specs.Shape.{IsShape}
-use Rattle.us_wire.specs.Readings.{Reading, Reads, ReadsOn}
-use Rattle.us_wire.specs.Whole.{IsShort, ReadsFrames}
+use Rattle.us_wire.specs.Readings.{Reads}
 use Rattle.us_wire.proofs.Combined.{on, reads_made}
 use Rattle.us_wire.proofs.WholeFrames.{reads_tagged, reads_frames}
-use Rattle.us_fields.specs.Lists.{both_at, made_at}
+use Rattle.us_fields.specs.Lists.{both_at}
 use Rattle.us_fields.proofs.ListLaws.{reads_both, reads_both_on}
 use Rattle.us_peer_wire.specs.declared.message.Actor.{Actor}
 use Rattle.us_peer_wire.specs.declared.message.Message.{Message}

@@ -1,10 +1,9 @@
 -- How long a packet's frame is.
-use Rattle.std.proofs.Common.{◌≡◌, ℕ, ◌+◌, ◌*◌, ◌≤◌, ◌<◌, ◌^◌, List, [], ◌∷◌, ◌++◌, length, Option, None, Some, length-append, refl, sym, ap, ◌∙◌, arith}
-use Rattle.std.specs.Prelude.{option_to_list, min}
-use Rattle.std.specs.Int.{to_be_bytes, w64}
+use Rattle.std.proofs.Common.{◌≡◌, ℕ, List, [], ◌∷◌, ◌++◌, length, Option, None, Some, length-append, refl, arith}
+use Rattle.std.specs.Prelude.{option_to_list}
 use Rattle.us_base.specs.declared.shape.Shape.{Shape}
 use Rattle.us_base.specs.Shape.{IsShape}
-use Rattle.us_migrate.specs.Spellings.{tid_spelling, vector_spelling}
+use Rattle.us_migrate.specs.Spellings.{vector_spelling}
 use Rattle.us_value.specs.declared.operation.Effect.{Effect}
 use Rattle.us_value.specs.declared.operation.Op.{Op}
 use Rattle.us_value.specs.declared.operation.Op.TheVariants as op
@@ -29,7 +28,7 @@ use Rattle.us_peer_wire.specs.declared.message.Page.TheVariants.{Skip, Holds}
 use Rattle.us_peer_wire.specs.Parts.{form_spelling, MaybeFits, FormFits, entry_spelling, EntryFits, page_spelling, PageFits, end_spelling}
 use Rattle.us_peer_wire.specs.Messages.{message_fields, MessageFits}
 use Rattle.us_peer_wire.specs.Lengths.{op_length, form_length, entry_length, page_length, end_length, message_length, packet_length}
-use Rattle.us_peer_wire.specs.Packets.{packet_fields, packet_spelling, PacketFits}
+use Rattle.us_peer_wire.specs.Packets.{packet_spelling, PacketFits}
 
 ops-length : (o : Op) → length (op_spelling o) ≡ op_length o
 ops-length op.RegisterRead = refl

@@ -1,5 +1,5 @@
 -- What messages hold is read as it is spelled.
-use Rattle.std.proofs.Common.{◌≡◌, ℕ, zero, suc, ◌≤◌, ◌<◌, ◌==◌, Bool, true, false, List, [], ◌∷◌, ◌++◌, length, Option, Some, None, refl, sym, ap, ◌∙◌, arith}
+use Rattle.std.proofs.Common.{◌≡◌, ℕ, zero, suc, ◌≤◌, ◌==◌, false, List, [], ◌∷◌, length, Option, Some, None, refl, arith}
 use Rattle.std.specs.Prelude.{slice_get, option_to_list}
 use Rattle.std.specs.Int.{w8}
 use Rattle.std.specs.List.{AllByRecursion}
@@ -8,7 +8,7 @@ use Rattle.us_kind.specs.declared.identity.Tid.{Tid}
 use Rattle.us_base.specs.declared.shape.Shape.{Shape}
 use Rattle.us_base.specs.Shape.{IsShape, sites_of}
 use Rattle.us_wire.specs.Fields.{number_at}
-use Rattle.us_wire.specs.Readings.{Reading, number_between_at, Reads, ReadsOn}
+use Rattle.us_wire.specs.Readings.{number_between_at, Reads, ReadsOn}
 use Rattle.us_wire.proofs.Combined.{refit, reads_made, reads_byte, reads_either}
 use Rattle.us_migrate.specs.Spellings.{tid_spelling, vector_spelling, IsOneOf, TidFits, VectorFits}
 use Rattle.us_migrate.specs.Readings.{tid_at, vector_at}
@@ -21,15 +21,13 @@ use Rattle.us_value.specs.declared.operation.Class.TheVariants as class
 use Rattle.us_value.specs.declared.operation.Effect.{Effect}
 use Rattle.us_fields.specs.Fields.{item_spelling, ItemFits, answer_spelling, AnswerFits}
 use Rattle.us_fields.specs.FieldReadings.{item_at, answer_at}
-use Rattle.us_fields.specs.Lists.{both_at, made_at, list_spelling, ListFits, list_at}
+use Rattle.us_fields.specs.Lists.{both_at, list_spelling, ListFits, list_at}
 use Rattle.us_fields.specs.Effects.{places, effect_spelling, EffectFits, effect_at, writes_spelling, WritesFit, writes_at}
 use Rattle.us_fields.proofs.FieldLaws.{unlike, one_of, reads_items, reads_answers}
 use Rattle.us_fields.proofs.ListLaws.{reads_bytes, reads_both, reads_coded, reads_next, reads_bare, reads_case, reads_no_code, reads_lists}
 use Rattle.us_fields.proofs.EffectLaws.{reads_effects, reads_writes}
-use Rattle.us_peer_wire.specs.declared.message.Actor.{Actor}
 use Rattle.us_peer_wire.specs.declared.message.Form.{Form}
 use Rattle.us_peer_wire.specs.declared.message.Form.TheVariants.{Answered, WritesFull, AnswerFull}
-use Rattle.us_peer_wire.specs.declared.message.LogEntry.{LogEntry}
 use Rattle.us_peer_wire.specs.declared.message.OutcomeEnd.{OutcomeEnd}
 use Rattle.us_peer_wire.specs.declared.message.OutcomeEnd.TheVariants.{Commit, Abort}
 use Rattle.us_peer_wire.specs.declared.message.Page.{Page}

@@ -1,5 +1,5 @@
 -- Spellings that were written one behind the other.
-use Rattle.std.proofs.Common.{◌≡◌, ℕ, List, ◌++◌, Result, Ok, Err, sym, ap, ◌∙◌, append_assoc}
+use Rattle.std.proofs.Common.{◌≡◌, ℕ, List, ◌++◌, Result, Ok, Err, ap, ◌∙◌, append_assoc}
 use Rattle.std.specs.Prelude.{IfOk}
 
 -- one spelling, and then another

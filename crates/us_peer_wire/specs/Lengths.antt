@@ -1,7 +1,6 @@
 -- How long spellings are. Where a list is longer than its count field can tell, it counts as if the field could.
 use Rattle.std.specs.Prelude.{ℕ, ◌+◌, ◌*◌, option_to_list}
 use Rattle.us_base.specs.declared.shape.Shape.{Shape}
-use Rattle.us_value.specs.declared.operation.Effect.{Effect}
 use Rattle.us_value.specs.declared.operation.Op.{Op}
 use Rattle.us_value.specs.declared.operation.Op.TheVariants as op
 use Rattle.us_value.specs.Lengths.{value_length, item_length, answer_length, effect_length, write_length}

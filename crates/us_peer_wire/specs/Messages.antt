@@ -1,5 +1,5 @@
 -- Messages: the tag and the fields of each, which have a spelling, and which stands at a place.
-use Rattle.std.specs.Prelude.{◌≡◌, ℕ, ◌≤◌, ◌==◌, nat_lt, List, [], ◌∷◌, ◌++◌, true, Option, Some, None, if◌then◌else◌}
+use Rattle.std.specs.Prelude.{◌≡◌, ℕ, ◌≤◌, ◌==◌, nat_lt, List, ◌∷◌, ◌++◌, true, None, if◌then◌else◌}
 use Rattle.std.specs.Int.{to_be_bytes, w8, w64}
 use Rattle.us_kind.specs.declared.identity.Tid.{Tid}
 use Rattle.us_base.specs.declared.shape.Shape.{Shape}

@@ -1,5 +1,5 @@
 -- Packets: how a frame spells one, and which packet a frame is.
-use Rattle.std.specs.Prelude.{◌≡◌, ℕ, List, ◌++◌, Option}
+use Rattle.std.specs.Prelude.{ℕ, List, ◌++◌, Option}
 use Rattle.us_base.specs.declared.shape.Shape.{Shape}
 use Rattle.us_base.specs.Shape.{IsShape}
 use Rattle.us_wire.specs.Readings.{Reading}

@@ -1,19 +1,11 @@
 -- What messages hold: how each is spelled, which have a spelling, and which stands at a place.
-use Rattle.std.specs.Prelude.{◌≡◌, ℕ, ◌+◌, ◌*◌, ◌≤◌, ◌==◌, List, [], ◌∷◌, ◌++◌, Bool, nat_le, slice_get, Option, Some, None, option_to_list, if◌then◌else◌}
-use Rattle.std.specs.Int.{to_be_bytes, w8, w64}
-use Rattle.us_kind.specs.declared.identity.Tid.{Tid}
+use Rattle.std.specs.Prelude.{ℕ, ◌≤◌, ◌==◌, List, [], ◌∷◌, ◌++◌, slice_get, Option, Some, None, option_to_list, if◌then◌else◌}
+use Rattle.std.specs.Int.{w8}
 use Rattle.us_base.specs.declared.shape.Shape.{Shape}
 use Rattle.us_base.specs.Shape.{sites_of}
-use Rattle.us_base.specs.Vector.{entry}
-use Rattle.us_wire.specs.Fields.{number_at}
-use Rattle.us_wire.specs.Readings.{Reading, number_between_at, largest_number}
+use Rattle.us_wire.specs.Readings.{Reading, number_between_at}
 use Rattle.us_migrate.specs.Spellings.{tid_spelling, vector_spelling, IsOneOf, TidFits, VectorFits}
 use Rattle.us_migrate.specs.Readings.{tid_at, vector_at}
-use Rattle.us_value.specs.declared.item.Item.{Item}
-use Rattle.us_value.specs.declared.item.Write.{Write}
-use Rattle.us_value.specs.declared.operation.Answer.{Answer}
-use Rattle.us_value.specs.declared.operation.Class.{Class}
-use Rattle.us_value.specs.declared.operation.Class.TheVariants as class
 use Rattle.us_value.specs.declared.operation.Effect.{Effect}
 use Rattle.us_fields.specs.Fields.{item_spelling, ItemFits, answer_spelling, AnswerFits}
 use Rattle.us_fields.specs.FieldReadings.{item_at, answer_at}

@@ -24,4 +24,7 @@ returns-clause-report c =
     subst (λ (s : Settings). IfOk c.report_of_lines.result (IsWorldReport s c.args.script.lines)) parts.ensures.settings
     (subst (λ (ls : List Numbered). IfOk c.report_of_lines.result (IsWorldReport parts.result.0 ls)) lines c.report_of_lines.ensures.report)
     in
-    both c.args.script c.report_of_lines.result is c.report_of_lines.ensures.sound
+    let sound : IfOk c.report_of_lines.result (λ report. IsSound c.args.script.config.conflicts report.execution) =
+    subst (λ (s : Settings). IfOk c.report_of_lines.result (λ report. IsSound s.conflicts report.execution)) parts.ensures.settings c.report_of_lines.ensures.sound
+    in
+    both c.args.script c.report_of_lines.result is sound

@@ -1,4 +1,4 @@
-use Rattle.std.proofs.Common.{ℕ, ◌+◌, List, arith}
+use Rattle.std.proofs.Common.{◌+◌, List, arith}
 use Rattle.std.proofs.lemmas.List.{at_drop_all}
 use Rattle.us_value.specs.Lengths.{capped}
 use Rattle.us_fields.specs.Lengths.{sum_of_sizes}

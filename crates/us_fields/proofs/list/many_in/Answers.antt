@@ -1,4 +1,4 @@
-use Rattle.std.proofs.Common.{◌≡◌, ◌-◌, ◌+◌, ℕ, List, sym, ap, ◌∙◌}
+use Rattle.std.proofs.Common.{◌-◌, ◌+◌, List, sym, ap, ◌∙◌}
 use Rattle.us_wire.specs.Readings.{many_at}
 use Rattle.us_wire.proofs.Combined.{in_front, many_at-turn, many_at-end}
 use Rattle.us_fields.proofs.ListLoops.{none_read, fault_read}
