@@ -1,7 +1,7 @@
 -- Who owns a ballot, and numbers that pass.
 use Rattle.std.proofs.Common.{◌≡◌, ◌⊎◌, inl, inr, ⊎_elim, ℕ, zero, suc, ◌+◌, ◌-◌, ◌*◌, ◌/◌, ◌%◌, ◌<◌, ◌≤◌, Bool, true, false, refl, sym, ap, ◌∙◌, subst, arith, true≢false}
 use Rattle.std.specs.Prelude.{if◌then◌else◌}
-use Rattle.std.proofs.Math.Nat.{add-mod-mod, mod-add-mod, add-mod_right, div-add-mod}
+use Rattle.std.proofs.Math.Nat.{add-mod-mod, mod-eq_of_lt, mod-add-mod, add-mod_right, div-add-mod}
 use Rattle.std.proofs.lemmas.Nat.{mod-mul-add, mod_below}
 use Rattle.std.proofs.lemmas.Bool.{cases_lt}
 use Rattle.us_ballot_model.specs.Ballots.{owner, next_ballot, most}
@@ -51,12 +51,13 @@ most_passes p (suc n) l = on (p (suc n)) refl l (most_passes p n)
 -- two numbers less than d apart have different remainders
 mod_apart : (d x k : ℕ) → 0 < k → k < d → x % d ≡ (x + k) % d → ⊥
 mod_apart d x k some less e = ⊎_elim
-    (λ (l : x % d + k < d). let small : (x % d + k) % d ≡ x % d + k = mod_of_lt (x % d + k) d l in let a = e ∙ sym (mod-add-mod x d k) ∙ small in omega arith)
+    (λ (l : x % d + k < d). let small : (x % d + k) % d ≡ x % d + k = mod-eq_of_lt l in let a = e ∙ sym (mod-add-mod x d k) ∙ small in omega arith)
     (λ (l : d ≤ x % d + k).
       let low : x % d < d = mod_below x d (omega arith) in
       let rest = x % d + k - d in
       let shift : x % d + k ≡ x % d + k - d + d = omega arith in
-      let small : (x % d + k - d) % d ≡ x % d + k - d = mod_of_lt (x % d + k - d) d (omega arith) in
+      let below : x % d + k - d < d = omega arith in
+      let small : (x % d + k - d) % d ≡ x % d + k - d = mod-eq_of_lt below in
       let a = e ∙ sym (mod-add-mod x d k) ∙ ap (λ y. y % d) shift ∙ add-mod_right (x % d + k - d) d ∙ small in omega arith)
     (cases_lt (x % d + k) d)
 
