@@ -16,3 +16,4 @@ pub mod Same
 pub mod Starting
 pub mod Steps
 pub mod Deciding
+pub mod Heads

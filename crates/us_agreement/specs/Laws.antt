@@ -1,8 +1,9 @@
 -- What holds of every run of the small world of 2f + 1 ballot logs.
-use Rattle.std.specs.Prelude.{◌≡◌, ℕ, ◌<◌, ◌≤◌, ◌++◌, List, length, Bool, true, ◌⊎◌, Some, slice_get}
+use Rattle.std.specs.Prelude.{◌≡◌, ℕ, ◌+◌, ◌*◌, ◌<◌, ◌≤◌, List, [], ◌∷◌, ◌++◌, length, Bool, true, if◌then◌else◌, ◌⊎◌, Some, slice_get}
 use Rattle.us_kind.specs.Words.{In}
 use Rattle.us_ballot_model.specs.declared.log.BallotLog.{BallotLog}
-use Rattle.us_ballot_model.specs.Ballots.{sites, WINDOW}
+use Rattle.us_ballot_model.specs.Ballots.{sites, owner, next_ballot, WINDOW}
+use Rattle.us_ballot_model.specs.Rules.{trimmed}
 use Rattle.us_ballot_model.specs.Worlds.{World, Happening, run, opening_world}
 use Rattle.us_agreement.specs.Words.{count}
 
@@ -48,3 +49,25 @@ ChosenEntriesAreHeld {E} eq = (f : ℕ) (hs more : List (Happening E)) (s slot :
 -- a tail has at most 8 entries
 abbrev pub TailsAreShort : {E : Type 0} → (E → E → Bool) → Type 0
 TailsAreShort {E} eq = (f : ℕ) (hs : List (Happening E)) (s : ℕ) → length ((after eq f hs).at s).tail ≤ WINDOW
+
+-- the ballot that a site leads next is the least above its own that it owns
+pub record IsLeastOwned (f s b next : ℕ) : Type 0 where
+  pub owned : owner f next ≡ s
+  pub above : b < next
+  pub least : (c : ℕ) → b < c → c < next → owner f c ≡ s → ⊥
+
+abbrev pub NextBallotsAreLeast : Type 0
+NextBallotsAreLeast = (f s b : ℕ) → 1 ≤ s → s ≤ 2 * f + 1 → IsLeastOwned f s b (next_ballot f s b)
+
+-- a tail after one entry that was learnt: without its head where that is equal, and else nothing
+abbrev pub after_entry : {E : Type 0} → (E → E → Bool) → E → List E → List E
+after_entry eq e [] = []
+after_entry eq e (x ∷ tail) = if eq e x then tail else []
+
+abbrev pub after_entries : {E : Type 0} → (E → E → Bool) → List E → List E → List E
+after_entries eq [] tail = tail
+after_entries eq (e ∷ es) tail = after_entries eq es (after_entry eq e tail)
+
+-- what a learner's tail keeps of a page is what it keeps entry by entry
+abbrev pub TailsLoseHeads : {E : Type 0} → (E → E → Bool) → Type 0
+TailsLoseHeads {E} eq = (tail es : List E) → trimmed eq tail es ≡ after_entries eq es tail

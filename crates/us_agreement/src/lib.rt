@@ -4,7 +4,7 @@
 //! message ever sent comes to its site, any number of times, in any order. Entries are of any type whose `==` tells them apart.
 #![tactic(auto)]
 
-ghost use Rattle.us_agreement.specs.Laws.{ChosenListsAgree, ChosenListsGrow, ChosenEntriesWereAppended, ChosenEntriesAreHeld, TailsAreShort};
+ghost use Rattle.us_agreement.specs.Laws.{ChosenListsAgree, ChosenListsGrow, ChosenEntriesWereAppended, ChosenEntriesAreHeld, NextBallotsAreLeast, TailsAreShort, TailsLoseHeads};
 
 use us_kind::Slot;
 
@@ -31,4 +31,14 @@ pub fn chosen_entries_are_held<E: Slot>()
 /// A tail has at most 8 entries.
 pub fn tails_are_short<E: Slot>()
     ensures { TailsAreShort E.eq }
+{}
+
+/// The ballot that a site leads next is the least above its own that it owns.
+pub fn next_ballots_are_least()
+    ensures { NextBallotsAreLeast }
+{}
+
+/// What a learner's tail keeps of a page is what it keeps entry by entry: it loses its head where that is equal, and else all.
+pub fn tails_lose_heads<E: Slot>()
+    ensures { TailsLoseHeads E.eq }
 {}

