@@ -1,7 +1,7 @@
 -- The partitions that are written, one after another.
 use Rattle.std.proofs.Common.{◌≡◌, ℕ, ◌+◌, List, [], ◌∷◌, ◌++◌, Bool, filter, map, refl, ap, sym, ◌∙◌, cond}
 use Rattle.std.specs.List.{range_with_len}
-use Rattle.std.proofs.lemmas.List.FromFn.{filter_of_map_range_with_len_more, map-range_with_len_more}
+use Rattle.std.proofs.lemmas.List.FromFn.{filter_of_map_range_with_len_more}
 
 same_map : (xs : List ℕ) → map (λ x. x) xs ≡ xs
 same_map [] = refl

@@ -3,7 +3,6 @@ use Rattle.us_base.specs.Shape.{IsShape}
 use Rattle.us_base.specs.declared.shape.Shape.{Shape}
 use Rattle.us_model.specs.declared.coordinator.Session.{Session}
 use Rattle.us_peer_wire.specs.declared.message.Actor.{Actor}
-use Rattle.us_model.specs.declared.coordinator.Desk.{Desk}
 use Rattle.us_site.specs.Steps.{acts}
 use Rattle.us_site.proofs.Posts.{post, acts-post}
 use Rattle.us_site.proofs.EachSession.{each-desk, each-sessions}

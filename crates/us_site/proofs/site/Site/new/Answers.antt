@@ -1,8 +1,7 @@
-use Rattle.std.proofs.Common.{◌≡◌, ◌∙◌, ap, sym, subst, length}
+use Rattle.std.proofs.Common.{◌∙◌, ap, sym, subst, length}
 use Rattle.std.proofs.lemmas.List.FromFn.{length-map-range_with_len}
 use Rattle.us_base.specs.Shape.{IsShape}
 use Rattle.us_model.specs.declared.settings.Settings.{Settings}
-use Rattle.us_model.specs.State.{Shard}
 use Rattle.us_model.specs.Sites.{new_shard}
 use Rattle.us_site.proofs.site.Site.new.Goals as goal
 
