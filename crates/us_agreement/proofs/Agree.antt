@@ -1,7 +1,7 @@
 -- Of chosen lists one is the front of the other, and what is chosen is held by f + 1 sites.
-use Rattle.std.proofs.Common.{◌≡◌, ◌⊎◌, inl, inr, ⊎_elim, ℕ, ◌+◌, ◌*◌, ◌<◌, ◌≤◌, List, length, drop, Bool, true, Some, sym, ◌∙◌, subst, arith}
+use Rattle.std.proofs.Common.{◌≡◌, ◌⊎◌, inl, inr, ⊎_elim, ℕ, ◌+◌, ◌*◌, ◌<◌, ◌≤◌, List, length, drop, Bool, true, Some, sym, ◌∙◌, arith}
 use Rattle.std.specs.Prelude.{slice_get}
-use Rattle.std.proofs.lemmas.Bool.{cases_eq, cases_lt}
+use Rattle.std.proofs.lemmas.Bool.{cases_eq}
 use Rattle.us_kind.specs.Words.{In}
 use Rattle.us_ballot_model.specs.declared.log.BallotLog.{BallotLog}
 use Rattle.us_ballot_model.specs.Ballots.{sites}
@@ -9,7 +9,7 @@ use Rattle.us_ballot_model.specs.Worlds.{World}
 use Rattle.us_agreement.specs.Words.{count}
 use Rattle.us_agreement.specs.Laws.{IsFront, IsHeldByMany, chosen_at}
 use Rattle.us_agreement.proofs.Same.{IsDecided, some_below, Same, same_sym, same_trans, same_less, same_length, decide_same}
-use Rattle.us_agreement.proofs.History.{Ack, Start, initial, Choice, IsStarted, Blocked, blocked_more, IsChosen, ChoiceOk, not_blocked, choice_above, starts_in}
+use Rattle.us_agreement.proofs.History.{Ack, Start, initial, Choice, IsStarted, Blocked, blocked_more, ChoiceOk, not_blocked, choice_above}
 use Rattle.us_agreement.proofs.Growth.{LogOk, is_own, is_blocked, is_learned}
 use Rattle.us_agreement.proofs.Logs.{le_or_lt, compare, compare_chosen}
 use Rattle.us_agreement.proofs.Counting.{length_sites}
@@ -68,13 +68,13 @@ module _ {E : Type 0} (dec : IsDecided E) (f : ℕ) (p : Past E) (hist : History
           too_short : length (whole c) < length d.log → ⊥
           too_short l = ⊎_elim
               (λ (e : d.ballot ≡ c.accepted). ⊎_elim
-                (λ (w : told.0 ≤ length (whole c)). let y = told.1 in omega arith)
-                (λ bl. never (blocked_more (length d.log) (omega arith) bl))
-                ((g.acks d.ballot told.0 told.2).2 e))
+              (λ (w : told.0 ≤ length (whole c)). let y = told.1 in omega arith)
+              (λ bl. never (blocked_more (length d.log) (omega arith) bl))
+              ((g.acks d.ballot told.0 told.2).2 e))
               (λ (n : d.ballot ≡ c.accepted → ⊥). ⊎_elim
-                (λ (w : length (initial g.log.start) ≤ length (whole c)). let e = g.log.is in let u = up in let b = (begins_with g.log.start g.log.here (omega arith)).0 in omega arith)
-                (λ bl. free c.accepted (length (whole c)) st up (omega arith) bl)
-                g.log.long)
+              (λ (w : length (initial g.log.start) ≤ length (whole c)). let e = g.log.is in let u = up in let b = (begins_with g.log.start g.log.here (omega arith)).0 in omega arith)
+              (λ bl. free c.accepted (length (whole c)) st up (omega arith) bl)
+              g.log.long)
               (cases_eq d.ballot c.accepted)
 
       same : Same (length d.log) (whole c) d.log

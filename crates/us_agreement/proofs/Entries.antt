@@ -1,7 +1,7 @@
 -- Where entries come from, how long tails are, and that chosen lists grow.
-use Rattle.std.proofs.Common.{◌≡◌, ◌⊎◌, inl, inr, ⊎_elim, ℕ, zero, suc, ◌+◌, ◌-◌, ◌<◌, ◌≤◌, List, [], ◌∷◌, ◌++◌, length, length-append, length-drop, map, take, drop, Bool, true, false, Option, Some, None, refl, sym, ap, ◌∙◌, subst, arith, append_assoc, append-nil, true≢false}
-use Rattle.std.specs.Prelude.{◌==◌, ◌&&◌, not, if◌then◌else◌, filter, nat_lt, nat_le, max, slice_get}
-use Rattle.std.specs.List.{flat_map, starts_with}
+use Rattle.std.proofs.Common.{◌≡◌, inl, inr, ⊎_elim, ℕ, zero, suc, ◌+◌, ◌-◌, ◌≤◌, List, [], ◌∷◌, ◌++◌, length, length-append, length-drop, map, take, drop, Bool, true, Option, Some, None, refl, sym, ap, ◌∙◌, subst, arith, append_assoc, append-nil}
+use Rattle.std.specs.Prelude.{◌==◌, ◌&&◌, if◌then◌else◌, nat_lt, nat_le, max, slice_get}
+use Rattle.std.specs.List.{starts_with}
 use Rattle.std.proofs.lemmas.Bool.{cond_both, ltb-true, and_parts}
 use Rattle.us_kind.specs.Words.{In}
 use Rattle.us_kind.proofs.ListLemmas.{in_either, in_front, in_back, in_push, in_got}
@@ -11,9 +11,9 @@ use Rattle.us_ballot_model.specs.declared.log.Role.TheVariants.{Follows, Collect
 use Rattle.us_ballot_model.specs.declared.log.BallotLog.{BallotLog}
 use Rattle.us_ballot_model.specs.declared.message.BallotMessage.{BallotMessage}
 use Rattle.us_ballot_model.specs.declared.message.BallotMessage.TheVariants.{NewBallot, Promise, NewState, Accept, Accepted, CatchUp, Learn}
-use Rattle.us_ballot_model.specs.Ballots.{LAST, WINDOW, next_ballot, others, to_others, count, held, own_vow, vowed, best, ack_of, opening, first_acks}
-use Rattle.us_ballot_model.specs.Rules.{Stepped, sending, dropped, before, ready_as, advanced, advance, led, begin, start_by, best_of, due, start_with, start, collecting, lead_in, lead, may_follow, following, new_ballot, may_promise, with_vow, recorded, promise, restated, acknowledging, state_in, new_state, may_accept, joined, accept_in, tell_accepted, accept, with_ack, heard, may_hear, accepted, catch_up, trimmed, learnt, known, may_learn, learn_from, learn, take_message, missing, accepts, repeated, repeats, tick, may_append, put_in, append}
-use Rattle.us_ballot_model.specs.Worlds.{Sent, World, Happening, Leads as LeadsNow, Appends, Ticks, Crashes, Comes, put, sent_by, acts, stepped, steps, appends, comes, happens, run, opening_world}
+use Rattle.us_ballot_model.specs.Ballots.{LAST, WINDOW, next_ballot, others, to_others, count, held, best, ack_of, first_acks}
+use Rattle.us_ballot_model.specs.Rules.{Stepped, sending, dropped, before, ready_as, advanced, advance, led, begin, start_by, best_of, due, start_with, start, collecting, lead, may_follow, following, new_ballot, may_promise, with_vow, recorded, promise, restated, acknowledging, state_in, new_state, may_accept, joined, accept_in, tell_accepted, accept, with_ack, heard, may_hear, accepted, catch_up, trimmed, learnt, known, may_learn, learn_from, learn, take_message, missing, accepts, repeated, repeats, tick, may_append, put_in, append}
+use Rattle.us_ballot_model.specs.Worlds.{Sent, World, Happening, Leads as LeadsNow, Appends, Ticks, Crashes, Comes, put, sent_by, acts, stepped, steps, comes, happens, run, opening_world}
 use Rattle.us_agreement.specs.Laws.{IsFront, chosen_at}
 use Rattle.us_agreement.proofs.Facts.{at_each}
 use Rattle.us_agreement.proofs.Steps.{in_mapped}
@@ -101,25 +101,25 @@ module _ {E : Type 0} (app : List E) where
   unfolding advance
   advance_grows c = cond_both (nat_lt 0 (ready_as c c.role)) (advanced c (ready_as c c.role)) (dropped c) (λ (r : Stepped E). Yields app c r)
       (λ t h.
-        let k = ready_as c c.role in
-        let page : (e : E) → In e (take k c.tail) → In e app = λ e i. h.tail.known e (in_take k e c.tail i) in
-        record {
-          log = record { chosen = λ e i. ⊎_elim (λ j. h.chosen e j) (λ j. page e j) (in_either e c.chosen (take k c.tail) i); tail = drop_tail k c.tail h.tail; role = h.role };
-          sends = to_all c (Learn (count c + 1) (take k c.tail)) page;
-          grows = front_more c.chosen (take k c.tail);
-        })
+      let k = ready_as c c.role in
+      let page : (e : E) → In e (take k c.tail) → In e app = λ e i. h.tail.known e (in_take k e c.tail i) in
+      record {
+        log = record { chosen = λ e i. ⊎_elim (λ j. h.chosen e j) (λ j. page e j) (in_either e c.chosen (take k c.tail) i); tail = drop_tail k c.tail h.tail; role = h.role };
+        sends = to_all c (Learn (count c + 1) (take k c.tail)) page;
+        grows = front_more c.chosen (take k c.tail);
+      })
       (λ t. rests c)
 
   start_at : (c : BallotLog E) (v : Vow E) → IsTail app v.tail → Yields app c (start_by c v)
   start_at c v ok = cond_both (nat_lt (count c) v.base) (sending c ((v.site, CatchUp (count c)) ∷ [])) (begin (led c v)) (λ (r : Stepped E). Yields app c r)
       (λ t. says_one c v.site (CatchUp (count c)) (λ h. tt))
       (λ t h. and_more c (led c v) (advance (led c v)).log (to_others (led c v) (NewState c.ballot (count c) (led c v).tail)) (advance (led c v)).out.sends
-        (record {
-          log = record { chosen = h.chosen; tail = drop_tail (count c - v.base) v.tail ok; role = tt };
-          sends = to_all (led c v) (NewState c.ballot (count c) (led c v).tail) (drop_tail (count c - v.base) v.tail ok);
-          grows = front_self c.chosen;
-        })
-        (advance_grows (led c v)))
+      (record {
+        log = record { chosen = h.chosen; tail = drop_tail (count c - v.base) v.tail ok; role = tt };
+        sends = to_all (led c v) (NewState c.ballot (count c) (led c v).tail) (drop_tail (count c - v.base) v.tail ok);
+        grows = front_self c.chosen;
+      })
+      (advance_grows (led c v)))
 
   start_of : (c : BallotLog E) (vows : List (Vow E)) → ((v : Vow E) → In v vows → IsTail app v.tail) → Yields app c (start_with c (best_of vows))
   start_of c [] ok = rests c
@@ -139,14 +139,14 @@ module _ {E : Type 0} (app : List E) where
   lead_grows c = cond_both (nat_lt LAST (next_ballot c.f c.site c.ballot)) (dropped c) (before (to_others c (NewBallot (next_ballot c.f c.site c.ballot))) [] (start (collecting c (next_ballot c.f c.site c.ballot)))) (λ (r : Stepped E). Yields app c r)
       (λ t. rests c)
       (λ t h.
-        let b = next_ballot c.f c.site c.ballot in
-        and_more c (collecting c b) (start (collecting c b)).log (to_others c (NewBallot b)) (start (collecting c b)).out.sends
-        (record {
-          log = record { chosen = h.chosen; tail = h.tail; role = λ v i. ⊎_elim (λ q. subst (λ (u : Vow E). IsTail app u.tail) q h.tail) (λ n. absurd n) i };
-          sends = to_all c (NewBallot b) tt;
-          grows = front_self c.chosen;
-        })
-        (start_grows (collecting c b)))
+      let b = next_ballot c.f c.site c.ballot in
+      and_more c (collecting c b) (start (collecting c b)).log (to_others c (NewBallot b)) (start (collecting c b)).out.sends
+      (record {
+        log = record { chosen = h.chosen; tail = h.tail; role = λ v i. ⊎_elim (λ q. subst (λ (u : Vow E). IsTail app u.tail) q h.tail) (λ n. absurd n) i };
+        sends = to_all c (NewBallot b) tt;
+        grows = front_self c.chosen;
+      })
+      (start_grows (collecting c b)))
 
   new_ballot_grows : (c : BallotLog E) (from b : ℕ) → Yields app c (new_ballot c from b)
   unfolding new_ballot
@@ -167,8 +167,8 @@ module _ {E : Type 0} (app : List E) where
   unfolding promise
   promise_grows c b v ok = cond_both (may_promise c v.site b c.role) (start (recorded c v)) (dropped c) (λ (r : Stepped E). Yields app c r)
       (λ t h. and_more c (recorded c v) (start (recorded c v)).log [] (start (recorded c v)).out.sends
-        (record { log = record { chosen = h.chosen; tail = h.tail; role = vow_role c.role v h.role ok }; sends = λ m i. absurd i; grows = front_self c.chosen })
-        (start_grows (recorded c v)))
+      (record { log = record { chosen = h.chosen; tail = h.tail; role = vow_role c.role v h.role ok }; sends = λ m i. absurd i; grows = front_self c.chosen })
+      (start_grows (recorded c v)))
       (λ t. rests c)
 
   restated_known : (c : BallotLog E) (b base : ℕ) (tail : List E) → IsTail app tail → LogKnown app c → LogKnown app (restated c b base tail)
@@ -208,10 +208,10 @@ module _ {E : Type 0} (app : List E) where
   unfolding accept
   accept_grows c from b slot e i = cond_both (may_accept c from b) (tell_accepted (accept_in c slot e) from b slot) (dropped c) (λ (r : Stepped E). Yields app c r)
       (λ t. cond_both ((slot == held c + 1) && nat_lt (length c.tail) WINDOW) (joined c e) c (λ (d : BallotLog E). Yields app c (tell_accepted d from b slot))
-        (λ u h. and_more c (joined c e) (tell_accepted (joined c e) from b slot).log [] (tell_accepted (joined c e) from b slot).out.sends
-          (record { log = join_known c e i (and_parts (slot == held c + 1) (nat_lt (length c.tail) WINDOW) u).1 h; sends = λ m j. absurd j; grows = front_self c.chosen })
-          (tell_grows (joined c e) from b slot))
-        (λ u. tell_grows c from b slot))
+      (λ u h. and_more c (joined c e) (tell_accepted (joined c e) from b slot).log [] (tell_accepted (joined c e) from b slot).out.sends
+      (record { log = join_known c e i (and_parts (slot == held c + 1) (nat_lt (length c.tail) WINDOW) u).1 h; sends = λ m j. absurd j; grows = front_self c.chosen })
+      (tell_grows (joined c e) from b slot))
+      (λ u. tell_grows c from b slot))
       (λ t. rests c)
 
   ack_role : (r : Role E) (from n : ℕ) → RoleKnown app r → RoleKnown app (with_ack r from n)
@@ -238,14 +238,14 @@ module _ {E : Type 0} (app : List E) where
   unfolding learn
   learn_grows eq c first es ok = cond_both (may_learn c first es) (learn_from eq c (drop (known c first) es)) (dropped c) (λ (r : Stepped E). Yields app c r)
       (λ t h.
-        let more = drop (known c first) es in
-        and_more c (learnt eq c more) (start (learnt eq c more)).log [] (start (learnt eq c more)).out.sends
-        (record {
-          log = record { chosen = λ e i. ⊎_elim (λ j. h.chosen e j) (λ j. ok e (in_drop (known c first) e es j)) (in_either e c.chosen more i); tail = trimmed_tail eq c.tail more h.tail; role = h.role };
-          sends = λ m i. absurd i;
-          grows = front_more c.chosen more;
-        })
-        (start_grows (learnt eq c more)))
+      let more = drop (known c first) es in
+      and_more c (learnt eq c more) (start (learnt eq c more)).log [] (start (learnt eq c more)).out.sends
+      (record {
+        log = record { chosen = λ e i. ⊎_elim (λ j. h.chosen e j) (λ j. ok e (in_drop (known c first) e es j)) (in_either e c.chosen more i); tail = trimmed_tail eq c.tail more h.tail; role = h.role };
+        sends = λ m i. absurd i;
+        grows = front_more c.chosen more;
+      })
+      (start_grows (learnt eq c more)))
       (λ t. rests c)
 
   pub take_grows : (eq : E → E → Bool) (c : BallotLog E) (from : ℕ) (m : BallotMessage E) → MessageKnown app m → Yields app c (take_message eq c from m)
@@ -283,8 +283,8 @@ module _ {E : Type 0} (app : List E) where
   unfolding append
   append_grows c e i = cond_both (may_append c) (put_in c e) (dropped c) (λ (r : Stepped E). Yields app c r)
       (λ t h. and_more c (joined c e) (advance (joined c e)).log (to_others c (Accept c.ballot (held c + 1) e)) (advance (joined c e)).out.sends
-        (record { log = join_known c e i (and_parts _ (nat_lt (length c.tail) WINDOW) t).1 h; sends = to_all c (Accept c.ballot (held c + 1) e) i; grows = front_self c.chosen })
-        (advance_grows (joined c e)))
+      (record { log = join_known c e i (and_parts _ (nat_lt (length c.tail) WINDOW) t).1 h; sends = to_all c (Accept c.ballot (held c + 1) e) i; grows = front_self c.chosen })
+      (advance_grows (joined c e)))
       (λ t. rests c)
 
 -- MORE ENTRIES are appended
@@ -347,10 +347,10 @@ module _ {E : Type 0} where
   happens_goes eq f w (Crashes s) h = record { known = h; longer = λ s. front_self (chosen_at w s) }
   happens_goes eq f w (Appends s e) h = cond_both (acts f w s && may_append (w.at s)) (record (stepped w s (append (w.at s) e)) { appended = w.appended ++ e ∷ [] }) w (Goes w)
       (λ t.
-        let app = w.appended ++ e ∷ [] in
-        let k : WorldKnown app w.at w.sent = record { logs = λ j. log_more w.appended e (w.at j) (h.logs j); sent = λ y i. message_more w.appended e y.message (h.sent y i) } in
-        let l = append_grows app (w.at s) e (in_back e w.appended (e ∷ []) (inl refl)) (k.logs s) in
-        record { known = stepped_known app w.at w.sent s (append (w.at s) e) k l; longer = stepped_longer w.at s (append (w.at s) e).log l.grows })
+      let app = w.appended ++ e ∷ [] in
+      let k : WorldKnown app w.at w.sent = record { logs = λ j. log_more w.appended e (w.at j) (h.logs j); sent = λ y i. message_more w.appended e y.message (h.sent y i) } in
+      let l = append_grows app (w.at s) e (in_back e w.appended (e ∷ []) (inl refl)) (k.logs s) in
+      record { known = stepped_known app w.at w.sent s (append (w.at s) e) k l; longer = stepped_longer w.at s (append (w.at s) e).log l.grows })
       (λ t. stays w h)
   happens_goes eq f w (Comes k) h = on (slice_get w.sent k) refl
     where

@@ -1,28 +1,23 @@
 -- What a leader's entries, choices and start keep.
-use Rattle.std.proofs.Common.{◌≡◌, ◌⊎◌, inl, inr, ⊎_elim, ℕ, zero, suc, ◌+◌, ◌-◌, ◌*◌, ◌<◌, ◌≤◌, List, [], ◌∷◌, ◌++◌, length, length-append, length-drop, length-take, take, drop, Bool, true, false, Option, Some, None, refl, sym, ap, ◌∙◌, subst, arith, append_assoc, append-nil, true≢false}
-use Rattle.std.specs.Prelude.{◌==◌, ◌&&◌, nat_lt, slice_get}
-use Rattle.std.proofs.Math.Seq.{drop-append_seam}
-use Rattle.std.proofs.lemmas.List.{take-append-drop, drop-drop}
-use Rattle.std.proofs.lemmas.Bool.{cases_eq, cases_lt, eqb-true, ltb-true, leb-true, and_parts, or_cases}
+use Rattle.std.proofs.Common.{◌≡◌, ◌⊎◌, inl, inr, ⊎_elim, ℕ, ◌+◌, ◌-◌, ◌*◌, ◌<◌, ◌≤◌, List, [], ◌∷◌, ◌++◌, length, length-append, length-take, take, drop, true, Option, Some, None, refl, sym, ap, ◌∙◌, subst, arith, append_assoc, true≢false}
+use Rattle.std.specs.Prelude.{◌==◌, nat_lt, slice_get}
+use Rattle.std.proofs.lemmas.List.{take-append-drop}
+use Rattle.std.proofs.lemmas.Bool.{cases_eq, eqb-true, ltb-true, leb-true, and_parts, or_cases}
 use Rattle.us_kind.specs.Words.{In}
-use Rattle.us_kind.proofs.ListLemmas.{in_either, in_front, in_back}
-use Rattle.us_ballot_model.specs.declared.log.Vow.{Vow}
-use Rattle.us_ballot_model.specs.declared.log.Role.{Role}
-use Rattle.us_ballot_model.specs.declared.log.Role.TheVariants.{Follows, Collects, Leads}
+use Rattle.us_ballot_model.specs.declared.log.Role.TheVariants.{Leads}
 use Rattle.us_ballot_model.specs.declared.log.BallotLog.{BallotLog}
-use Rattle.us_ballot_model.specs.declared.message.BallotMessage.{BallotMessage}
-use Rattle.us_ballot_model.specs.declared.message.BallotMessage.TheVariants.{NewBallot, Promise, NewState, Accept, Accepted, CatchUp, Learn}
-use Rattle.us_ballot_model.specs.Ballots.{sites, owner, others, to_others, count, held, at_least, ack_of, flat, backers}
-use Rattle.us_ballot_model.specs.Worlds.{Sent, put}
+use Rattle.us_ballot_model.specs.declared.message.BallotMessage.TheVariants.{Accept, Learn}
+use Rattle.us_ballot_model.specs.Ballots.{sites, owner, to_others, count, held, at_least, ack_of, flat, backers}
+use Rattle.us_ballot_model.specs.Worlds.{put}
 use Rattle.us_agreement.specs.Words.{count as count_of}
-use Rattle.us_agreement.proofs.Same.{IsDecided, merged, some_below, Same, same_refl, same_sym, same_trans, same_less, same_front, get_front, get_back}
-use Rattle.us_agreement.proofs.History.{Acknowledgement, Ack, Start, initial, Choice, IsStarted, Blocked, blocked_more, IsChosen, StartOk, StartsOk, ChoiceOk, not_blocked}
-use Rattle.us_agreement.proofs.Growth.{LogOk, is_own, is_blocked, is_learned, LogFacts, AckFacts, Grows, started_later, chosen_later, blocked_later, log_later, ack_later, best_later}
-use Rattle.us_agreement.proofs.Logs.{le_or_lt, length-merged, log_ok_same, against}
+use Rattle.us_agreement.proofs.Same.{IsDecided, Same, same_refl, same_sym, same_trans, same_less, same_front, get_back}
+use Rattle.us_agreement.proofs.History.{Acknowledgement, Ack, Start, initial, Choice, IsStarted, Blocked, blocked_more, ChoiceOk, not_blocked}
+use Rattle.us_agreement.proofs.Growth.{LogOk, is_own, is_blocked, is_learned, Grows, chosen_later, log_later, ack_later}
+use Rattle.us_agreement.proofs.Logs.{le_or_lt, log_ok_same, against}
 use Rattle.us_agreement.proofs.Counting.{has, acked, backers_count, majority_of}
-use Rattle.us_agreement.proofs.Facts.{Past, whole, LogIs, Chosen, AckIs, StateOk, AcceptOk, LearnOk, SentOk, IsLeading, AcksOk, LeadOk, RoleOk, SiteOk, HistoryOk, Owes, owes_nothing, starts_kept, choices_kept, acks_later, put_same, put_other, at_each}
+use Rattle.us_agreement.proofs.Facts.{Past, whole, LogIs, Chosen, AckIs, IsLeading, LeadOk, RoleOk, SiteOk, HistoryOk, Owes, starts_kept, choices_kept, acks_later, put_same, put_other, at_each}
 use Rattle.us_agreement.proofs.Steps.{Step, to_others_ok}
-use Rattle.us_agreement.proofs.Moves.{get_append, told_past, told_owes, told_history}
+use Rattle.us_agreement.proofs.Moves.{get_append, told_past, told_history}
 
 -- the log of one ballot grows
 pub put_grows : {E : Type 0} (hs : List (Start E)) (logs : ℕ → List E) (cs : List (Choice E)) (b : ℕ) (l : List E) → length (logs b) ≤ length l → Same (length (logs b)) (logs b) l → Grows hs hs logs (put logs b l) cs cs
@@ -119,19 +114,19 @@ module _ {E : Type 0} (dec : IsDecided E) (f : ℕ) (p : Past E) (hist : History
           let at = put_same p.logs c.ballot l in
           let grows = put_grows p.starts p.logs p.choices c.ballot l (let x = a.0 in let y = longer e in omega arith) (same_trans (same_sym a.1) (same_sym (same_less _ a.0 (same_front (whole c) (e ∷ []))))) in
           append_at e (put p.logs c.ballot l) (logs_owes (put p.logs c.ballot l) grows (own_logs l))
-            (longer_facts (put p.logs c.ballot l) l grows (longer e) (λ n le. let P : List E → Type 0 = λ y. (n ≤ length y) × Same n l y in let r = subst P (sym at) (le, same_refl n l) in is_own r.0 r.1))
-            (let P : List E → Type 0 = λ y. (length y ≤ length l) × Same (length y) l y in inl (subst P (sym at) (omega arith, same_refl _ l)))
-            (own_empty l)
+          (longer_facts (put p.logs c.ballot l) l grows (longer e) (λ n le. let P : List E → Type 0 = λ y. (n ≤ length y) × Same n l y in let r = subst P (sym at) (le, same_refl n l) in is_own r.0 r.1))
+          (let P : List E → Type 0 = λ y. (length y ≤ length l) × Same (length y) l y in inl (subst P (sym at) (omega arith, same_refl _ l)))
+          (own_empty l)
       on (inr bl) =
           let l = whole c ++ e ∷ [] in
           let grows : Grows p.starts p.starts p.logs p.logs p.choices p.choices = record { starts = λ h i. i; longer = λ b. omega arith; same = λ b. same_refl _ (p.logs b); choices = λ c i. i } in
           append_at e p.logs (logs_owes p.logs grows (λ x. inr refl))
-            (longer_facts p.logs l grows (longer e) (λ n le. ⊎_elim
-              (λ (a : n ≤ length (whole c)). log_ok_same p.starts p.logs p.choices c.ballot l (whole c) n (same_less n a (same_front (whole c) (e ∷ []))) (mine.at_each n a))
-              (λ (a : length (whole c) < n). is_blocked (blocked_more n (omega arith) bl))
-              (le_or_lt n (length (whole c)))))
-            (inr (blocked_more _ (longer e) bl))
-            hist.empty
+          (longer_facts p.logs l grows (longer e) (λ n le. ⊎_elim
+          (λ (a : n ≤ length (whole c)). log_ok_same p.starts p.logs p.choices c.ballot l (whole c) n (same_less n a (same_front (whole c) (e ∷ []))) (mine.at_each n a))
+          (λ (a : length (whole c) < n). is_blocked (blocked_more n (omega arith) bl))
+          (le_or_lt n (length (whole c)))))
+          (inr (blocked_more _ (longer e) bl))
+          hist.empty
 
   -- ADVANCE: what f + 1 sites hold is chosen
   module _ (k : ℕ) (some : 0 < k) (fits : k ≤ length c.tail) (enough : f ≤ backers acks (length c.chosen + k)) where
@@ -258,8 +253,8 @@ module _ {E : Type 0} (dec : IsDecided E) (f : ℕ) (p : Past E) (hist : History
             role = subst (RoleOk f p' s c') (sym leads) (record { owns = h.owns; same = h.same; leading = subst (IsLeading p' c.ballot) (sym parted) leading; acks = acks_later f p p' s o s c.ballot acks h.acks });
             owned = g.owned;
             acks = λ b m i. subst (λ y. AckIs p' c.accepted y b m) (sym parted) (⊎_elim
-              (λ (e : Ack c.ballot s (length (whole c)) ≡ Ack b s m). let x : c.ballot ≡ b = cc in let y : length (whole c) ≡ m = cc in let z = h.same in (omega arith, subst (IsStarted p.starts) x begun, λ q. inl (omega arith)))
-              (λ j. ack_later c.accepted (whole c) b m o.grows (g.acks b m j)) i);
+                (λ (e : Ack c.ballot s (length (whole c)) ≡ Ack b s m). let x : c.ballot ≡ b = cc in let y : length (whole c) ≡ m = cc in let z = h.same in (omega arith, subst (IsStarted p.starts) x begun, λ q. inl (omega arith)))
+                (λ j. ack_later c.accepted (whole c) b m o.grows (g.acks b m j)) i);
           };
           sends = to_others_ok f s here p' c g.f_is g.site_is (Learn (count c + 1) (take k c.tail)) (record {
             log = c.chosen ++ take k c.tail;

@@ -1,28 +1,27 @@
 -- Each rule keeps the facts.
 use Rattle.std.proofs.Common.{◌≡◌, ◌⊎◌, inl, inr, ⊎_elim, ℕ, zero, suc, ◌+◌, ◌-◌, ◌*◌, ◌<◌, ◌≤◌, List, [], ◌∷◌, ◌++◌, length, length-append, length-drop, length-take, map, take, drop, Bool, true, false, Option, Some, None, refl, sym, ap, ◌∙◌, subst, arith, true≢false}
-use Rattle.std.specs.Prelude.{◌==◌, ◌&&◌, ◌||◌, not, if◌then◌else◌, filter, nat_lt, nat_le, max, slice_get, slice_set}
+use Rattle.std.specs.Prelude.{◌==◌, ◌&&◌, ◌||◌, not, filter, nat_lt, nat_le, max, slice_get, slice_set}
 use Rattle.std.specs.List.{flat_map, starts_with}
 use Rattle.std.specs.Bool.{Decides}
 use Rattle.std.proofs.lemmas.Slice.Eq.{starts_is}
-use Rattle.std.proofs.lemmas.List.{take-append-drop}
 use Rattle.std.proofs.Math.Seq.{drop-append_seam}
-use Rattle.std.proofs.lemmas.Bool.{cases_eq, cases_lt, cond_both, eqb-true, eq-eqb, ltb-true, ltb-false, leb-true, and_parts}
+use Rattle.std.proofs.lemmas.Bool.{cases_lt, cond_both, eqb-true, eq-eqb, ltb-true, ltb-false, leb-true, and_parts}
 use Rattle.us_kind.specs.Words.{In}
-use Rattle.us_kind.proofs.ListLemmas.{in_either, in_front, in_push, in_filter, in_map}
+use Rattle.us_kind.proofs.ListLemmas.{in_either, in_push, in_filter, in_map}
 use Rattle.us_ballot_model.specs.declared.log.Vow.{Vow}
 use Rattle.us_ballot_model.specs.declared.log.Role.{Role}
 use Rattle.us_ballot_model.specs.declared.log.Role.TheVariants.{Follows, Collects, Leads}
 use Rattle.us_ballot_model.specs.declared.log.BallotLog.{BallotLog}
 use Rattle.us_ballot_model.specs.declared.message.BallotMessage.{BallotMessage}
 use Rattle.us_ballot_model.specs.declared.message.BallotMessage.TheVariants.{NewBallot, Promise, NewState, Accept, Accepted, CatchUp, Learn}
-use Rattle.us_ballot_model.specs.Ballots.{LAST, WINDOW, sites, owner, next_ballot, others, to_others, count, held, vowed, own_vow, best, backers, ack_of, flat, follows, leads, most}
-use Rattle.us_ballot_model.specs.Rules.{Stepped, sending, dropped, before, ready, ready_as, advanced, advance_by, advance, led, begin, start_by, best_of, due, start_with, start, collecting, lead_in, lead, may_follow, following, new_ballot, may_record, may_promise, with_vow, recorded, promise, restated, acknowledging, state_in, new_state, may_accept, joined, accept_in, tell_accepted, accept, risen, raised, with_ack, heard, may_hear, accepted, catch_up, trimmed, learnt, known, may_learn, learn_from, learn, take_message, missing, accepts, accepts_after, repeated, repeats, tick, may_append, put_in, append}
-use Rattle.us_ballot_model.specs.Worlds.{Sent, put, sent_by}
+use Rattle.us_ballot_model.specs.Ballots.{LAST, WINDOW, sites, owner, next_ballot, others, to_others, count, held, vowed, own_vow, best, backers, ack_of, flat, follows, leads}
+use Rattle.us_ballot_model.specs.Rules.{Stepped, sending, dropped, before, ready, ready_as, advanced, advance, led, begin, start_by, best_of, due, start_with, start, collecting, lead, may_follow, following, new_ballot, may_promise, with_vow, recorded, promise, restated, acknowledging, state_in, new_state, may_accept, joined, accept_in, tell_accepted, accept, risen, raised, with_ack, heard, may_hear, accepted, catch_up, known, may_learn, learn_from, learn, take_message, missing, accepts, repeated, repeats, tick, may_append, put_in, append}
+use Rattle.us_ballot_model.specs.Worlds.{Sent}
 use Rattle.us_agreement.proofs.Same.{IsDecided, Same, get_drop, get_back}
-use Rattle.us_agreement.proofs.History.{Acknowledgement, Ack}
+use Rattle.us_agreement.proofs.History.{Ack}
 use Rattle.us_agreement.proofs.Counting.{site_within}
 use Rattle.us_agreement.proofs.Owners.{owner_next, next_above, most_fits, most_passes}
-use Rattle.us_agreement.proofs.Facts.{Past, whole, LogIs, Chosen, VowOk, StateOk, AcceptOk, LearnOk, MessageOk, SentOk, AllApart, CollectOk, AcksOk, LeadOk, RoleOk, SiteOk, HistoryOk, owes_nothing, put_same}
+use Rattle.us_agreement.proofs.Facts.{Past, whole, LogIs, Chosen, VowOk, StateOk, AcceptOk, LearnOk, MessageOk, SentOk, AllApart, CollectOk, AcksOk, RoleOk, SiteOk, HistoryOk, owes_nothing}
 use Rattle.us_agreement.proofs.Steps.{Step, Keeps, by_step, and_then, nothing_keeps, to_others_ok, to_one_ok, sends_alone, raised_past, own_vow_ok, revow, with_role, in_mapped, not_equal}
 use Rattle.us_agreement.proofs.Moves.{learn_front, learn_apart, page_chosen, restate, acknowledge, join, get_append}
 use Rattle.us_agreement.proofs.Growing.{append_step, advance_step}
@@ -81,7 +80,7 @@ module _ {E : Type 0} (dec : IsDecided E) (f s : ℕ) (here : In s (sites f)) (x
       let pass : nat_le c.f (backers acks (count c + ready c acks)) ≡ true = most_passes (λ k. nat_le c.f (backers acks (count c + k))) (length c.tail) some in
       let enough : c.f ≤ backers acks (count c + ready c acks) = leb-true _ _ pass in
       advance_step dec f p hist s here c g acks e (subst (RoleOk f p s c) e g.role) (ready c acks) some (most_fits (λ k. nat_le c.f (backers acks (count c + k))) (length c.tail))
-        (subst (λ x. x ≤ backers acks (count c + ready c acks)) g.f_is enough)
+      (subst (λ x. x ≤ backers acks (count c + ready c acks)) g.f_is enough)
 
   pub advance_does : (c : BallotLog E) → Does f s xs c (advance c)
   unfolding advance
@@ -93,14 +92,14 @@ module _ {E : Type 0} (dec : IsDecided E) (f s : ℕ) (here : In s (sites f)) (x
   start_at : (c : BallotLog E) (v : Vow E) (vs : List (Vow E)) → c.role ≡ Collects (v ∷ vs) → c.f < length (v ∷ vs) → Does f s xs c (start_by c (best v vs))
   start_at c v vs e enough = cond_both (nat_lt (count c) (best v vs).base) (sending c (((best v vs).site, CatchUp (count c)) ∷ [])) (begin (led c (best v vs))) (λ (r : Stepped E). Does f s xs c r)
       (λ t. by_step f s xs c c (((best v vs).site, CatchUp (count c)) ∷ []) (λ p hist g given.
-        let h : CollectOk f p s c (v ∷ vs) = subst (RoleOk f p s c) e g.role in
-        let less = ltb-true (count c) (best v vs).base t in
-        sends_alone f p hist s here c g (((best v vs).site, CatchUp (count c)) ∷ []) (to_one_ok f s here p (best v vs).site (CatchUp (count c)) (λ q. let x = h.own (best v vs) (best_in v vs) q in absurd (omega arith)) tt)))
+      let h : CollectOk f p s c (v ∷ vs) = subst (RoleOk f p s c) e g.role in
+      let less = ltb-true (count c) (best v vs).base t in
+      sends_alone f p hist s here c g (((best v vs).site, CatchUp (count c)) ∷ []) (to_one_ok f s here p (best v vs).site (CatchUp (count c)) (λ q. let x = h.own (best v vs) (best_in v vs) q in absurd (omega arith)) tt)))
       (λ t. and_then f s xs c (led c (best v vs)) _ _ _
-        (by_step f s xs c _ _ (λ p hist g given.
-          let h : CollectOk f p s c (v ∷ vs) = subst (RoleOk f p s c) e g.role in
-          begin_step dec f p hist s here c g v vs h (subst (λ x. x < length (v ∷ vs)) g.f_is enough) (ltb-false (count c) (best v vs).base t)))
-        (advance_does (led c (best v vs))))
+      (by_step f s xs c _ _ (λ p hist g given.
+      let h : CollectOk f p s c (v ∷ vs) = subst (RoleOk f p s c) e g.role in
+      begin_step dec f p hist s here c g v vs h (subst (λ x. x < length (v ∷ vs)) g.f_is enough) (ltb-false (count c) (best v vs).base t)))
+      (advance_does (led c (best v vs))))
 
   start_of : (c : BallotLog E) (vows : List (Vow E)) → c.role ≡ Collects vows → c.f < length vows → Does f s xs c (start_with c (best_of vows))
   start_of c [] e enough = absurd (omega arith)
@@ -134,8 +133,8 @@ module _ {E : Type 0} (dec : IsDecided E) (f s : ℕ) (here : In s (sites f)) (x
   lead_does c = cond_both (nat_lt LAST b) (dropped c) (before (to_others c (NewBallot b)) [] (start (collecting c b))) (λ (r : Stepped E). Does f s xs c r)
       (λ t. nothing_keeps f s xs c)
       (λ t. and_then f s xs c (collecting c b) _ _ _
-        (by_step f s xs c _ _ (λ p hist g given. lead_step c p hist g b (next_above c.f c.site c.ballot) (owns p g)))
-        (start_does (collecting c b)))
+      (by_step f s xs c _ _ (λ p hist g given. lead_step c p hist g b (next_above c.f c.site c.ballot) (owns p g)))
+      (start_does (collecting c b)))
     where
       b : ℕ
       b = next_ballot c.f c.site c.ballot
@@ -152,9 +151,9 @@ module _ {E : Type 0} (dec : IsDecided E) (f s : ℕ) (here : In s (sites f)) (x
   unfolding new_ballot raised_past
   new_ballot_does c from b apart = cond_both (may_follow c from b) (sending (following c b) ((from, Promise b c.accepted (count c) c.tail) ∷ [])) (dropped c) (λ (r : Stepped E). Does f s xs c r)
       (λ t. by_step f s xs c (following c b) ((from, Promise b c.accepted (count c) c.tail) ∷ []) (λ p hist g given.
-        let le = leb-true c.ballot b (and_parts (nat_le c.ballot b) (owner c.f b == from) t).0 in
-        revow f p hist s here c g b Follows ((from, Promise b c.accepted (count c) c.tail) ∷ []) le tt
-          (to_one_ok f s here (raised_past f p hist s here c g b) from (Promise b c.accepted (count c) c.tail) apart (own_vow_ok f p hist s here c g b s le refl))))
+      let le = leb-true c.ballot b (and_parts (nat_le c.ballot b) (owner c.f b == from) t).0 in
+      revow f p hist s here c g b Follows ((from, Promise b c.accepted (count c) c.tail) ∷ []) le tt
+      (to_one_ok f s here (raised_past f p hist s here c g b) from (Promise b c.accepted (count c) c.tail) apart (own_vow_ok f p hist s here c g b s le refl))))
       (λ t. nothing_keeps f s xs c)
 
   -- PROMISE
@@ -177,8 +176,8 @@ module _ {E : Type 0} (dec : IsDecided E) (f s : ℕ) (here : In s (sites f)) (x
   unfolding promise
   promise_does c b v told apart = cond_both (may_promise c v.site b c.role) (start (recorded c v)) (dropped c) (λ (r : Stepped E). Does f s xs c r)
       (λ t. and_then f s xs c (recorded c v) (start (recorded c v)).log [] (start (recorded c v)).out.sends
-        (by_step f s xs c (recorded c v) [] (λ p hist g given. with_role f p hist s here c g (with_vow c.role v) (vow_role c p g b v (told p given) apart c.role g.role t)))
-        (start_does (recorded c v)))
+      (by_step f s xs c (recorded c v) [] (λ p hist g given. with_role f p hist s here c g (with_vow c.role v) (vow_role c p g b v (told p given) apart c.role g.role t)))
+      (start_does (recorded c v)))
       (λ t. nothing_keeps f s xs c)
 
   -- NEWSTATE
@@ -195,25 +194,25 @@ module _ {E : Type 0} (dec : IsDecided E) (f s : ℕ) (here : In s (sites f)) (x
   state_does c from base tail follows told apart = cond_both (nat_lt (count c) base) (sending c ((from, CatchUp (count c)) ∷ [])) (acknowledging (restated c c.ballot base tail) from c.ballot) (λ (r : Stepped E). Does f s xs c r)
       (λ t. by_step f s xs c c ((from, CatchUp (count c)) ∷ []) (λ p hist g given. sends_alone f p hist s here c g ((from, CatchUp (count c)) ∷ []) (to_one_ok f s here p from (CatchUp (count c)) apart tt)))
       (λ t. cond_both (nat_lt c.accepted c.ballot) (record c { tail = drop (count c - base) tail; accepted = c.ballot }) c (λ (d : BallotLog E). Does f s xs c (acknowledging d from c.ballot))
-        (λ u. and_then f s xs c (record c { tail = drop (count c - base) tail; accepted = c.ballot }) (record c { tail = drop (count c - base) tail; accepted = c.ballot }) [] ((from, Accepted c.ballot (held (record c { tail = drop (count c - base) tail; accepted = c.ballot }))) ∷ [])
-          (by_step f s xs c (record c { tail = drop (count c - base) tail; accepted = c.ballot }) [] (λ p hist g given. record {
-            past = p;
-            owes = owes_nothing f p s;
-            history = hist;
-            site = restate dec f p hist s here c g base tail (told p given) follows (ltb-false (count c) base t) (ltb-true c.accepted c.ballot u);
-            sends = λ m i. absurd i;
-          }))
-          (tell (record c { tail = drop (count c - base) tail; accepted = c.ballot }) from refl apart))
-        (λ u. by_step f s xs c c ((from, Accepted c.ballot (held c)) ∷ []) (λ p hist g given.
-          let same : c.accepted ≡ c.ballot = (let x = g.acc in let y = ltb-false c.accepted c.ballot u in omega arith) in
-          acknowledge dec f p hist s here c g same from apart (held c) (sym (length-append c.chosen c.tail)))))
+      (λ u. and_then f s xs c (record c { tail = drop (count c - base) tail; accepted = c.ballot }) (record c { tail = drop (count c - base) tail; accepted = c.ballot }) [] ((from, Accepted c.ballot (held (record c { tail = drop (count c - base) tail; accepted = c.ballot }))) ∷ [])
+      (by_step f s xs c (record c { tail = drop (count c - base) tail; accepted = c.ballot }) [] (λ p hist g given. record {
+        past = p;
+        owes = owes_nothing f p s;
+        history = hist;
+        site = restate dec f p hist s here c g base tail (told p given) follows (ltb-false (count c) base t) (ltb-true c.accepted c.ballot u);
+        sends = λ m i. absurd i;
+      }))
+      (tell (record c { tail = drop (count c - base) tail; accepted = c.ballot }) from refl apart))
+      (λ u. by_step f s xs c c ((from, Accepted c.ballot (held c)) ∷ []) (λ p hist g given.
+      let same : c.accepted ≡ c.ballot = (let x = g.acc in let y = ltb-false c.accepted c.ballot u in omega arith) in
+      acknowledge dec f p hist s here c g same from apart (held c) (sym (length-append c.chosen c.tail)))))
 
   pub new_state_does : (c : BallotLog E) (from b base : ℕ) (tail : List E) → ((p : Past E) → ((x : Sent E) → In x xs → SentOk f p x) → StateOk p b base tail) → (from ≡ s → ⊥) → Does f s xs c (new_state c from b base tail)
   unfolding new_state
   new_state_does c from b base tail told apart = cond_both (may_follow c from b) (state_in (following c b) from b base tail) (dropped c) (λ (r : Stepped E). Does f s xs c r)
       (λ t. and_then f s xs c (following c b) (state_in (following c b) from b base tail).log [] (state_in (following c b) from b base tail).out.sends
-        (follow_step c from b t)
-        (state_does (following c b) from base tail refl told apart))
+      (follow_step c from b t)
+      (state_does (following c b) from base tail refl told apart))
       (λ t. nothing_keeps f s xs c)
 
   -- ACCEPT
@@ -228,27 +227,27 @@ module _ {E : Type 0} (dec : IsDecided E) (f s : ℕ) (here : In s (sites f)) (x
   accept_for : (c : BallotLog E) (from slot : ℕ) (e : E) → c.role ≡ Follows → c.accepted ≡ c.ballot → ((p : Past E) → ((x : Sent E) → In x xs → SentOk f p x) → AcceptOk p c.ballot slot e) → (from ≡ s → ⊥) → Does f s xs c (tell_accepted (accept_in c slot e) from c.ballot slot)
   accept_for c from slot e follows same told apart = cond_both ((slot == held c + 1) && nat_lt (length c.tail) WINDOW) (joined c e) c (λ (d : BallotLog E). Does f s xs c (tell_accepted d from c.ballot slot))
       (λ t. and_then f s xs c (joined c e) (tell_accepted (joined c e) from c.ballot slot).log [] (tell_accepted (joined c e) from c.ballot slot).out.sends
-        (by_step f s xs c (joined c e) [] (λ p hist g given. record {
-          past = p;
-          owes = owes_nothing f p s;
-          history = hist;
-          site = join dec f p hist s here c g slot e (told p given) follows same (let x = eqb-true slot (held c + 1) (and_parts (slot == held c + 1) (nat_lt (length c.tail) WINDOW) t).0 in let y = length-append c.chosen c.tail in omega arith);
-          sends = λ m i. absurd i;
-        }))
-        (tell_for (joined c e) from slot same apart))
+      (by_step f s xs c (joined c e) [] (λ p hist g given. record {
+        past = p;
+        owes = owes_nothing f p s;
+        history = hist;
+        site = join dec f p hist s here c g slot e (told p given) follows same (let x = eqb-true slot (held c + 1) (and_parts (slot == held c + 1) (nat_lt (length c.tail) WINDOW) t).0 in let y = length-append c.chosen c.tail in omega arith);
+        sends = λ m i. absurd i;
+      }))
+      (tell_for (joined c e) from slot same apart))
       (λ t. tell_for c from slot same apart)
 
   pub accept_does : (c : BallotLog E) (from b slot : ℕ) (e : E) → ((p : Past E) → ((x : Sent E) → In x xs → SentOk f p x) → AcceptOk p b slot e) → (from ≡ s → ⊥) → Does f s xs c (accept c from b slot e)
   unfolding accept
   accept_does c from b slot e told apart = cond_both (may_accept c from b) (tell_accepted (accept_in c slot e) from b slot) (dropped c) (λ (r : Stepped E). Does f s xs c r)
       (λ t.
-        let k = and_parts (follows c.role) ((owner c.f b == from) && ((b == c.ballot) && (b == c.accepted))) t in
-        let l = and_parts (owner c.f b == from) ((b == c.ballot) && (b == c.accepted)) k.1 in
-        let m = and_parts (b == c.ballot) (b == c.accepted) l.1 in
-        let at : b ≡ c.ballot = eqb-true b c.ballot m.0 in
-        let of' : b ≡ c.accepted = eqb-true b c.accepted m.1 in
-        subst (λ y. Does f s xs c (tell_accepted (accept_in c slot e) from y slot)) (sym at)
-          (accept_for c from slot e (is_follows c.role k.0) (sym of' ∙ at) (λ p given. subst (λ y. AcceptOk p y slot e) at (told p given)) apart))
+      let k = and_parts (follows c.role) ((owner c.f b == from) && ((b == c.ballot) && (b == c.accepted))) t in
+      let l = and_parts (owner c.f b == from) ((b == c.ballot) && (b == c.accepted)) k.1 in
+      let m = and_parts (b == c.ballot) (b == c.accepted) l.1 in
+      let at : b ≡ c.ballot = eqb-true b c.ballot m.0 in
+      let of' : b ≡ c.accepted = eqb-true b c.accepted m.1 in
+      subst (λ y. Does f s xs c (tell_accepted (accept_in c slot e) from y slot)) (sym at)
+      (accept_for c from slot e (is_follows c.role k.0) (sym of' ∙ at) (λ p given. subst (λ y. AcceptOk p y slot e) at (told p given)) apart))
       (λ t. nothing_keeps f s xs c)
 
   -- ACCEPTED
@@ -287,12 +286,12 @@ module _ {E : Type 0} (dec : IsDecided E) (f s : ℕ) (here : In s (sites f)) (x
   unfolding accepted
   accepted_does c from b n told apart = cond_both (may_hear c b n) (advance (heard c from n)) (dropped c) (λ (r : Stepped E). Does f s xs c r)
       (λ t. and_then f s xs c (heard c from n) (advance (heard c from n)).log [] (advance (heard c from n)).out.sends
-        (by_step f s xs c (heard c from n) [] (λ p hist g given.
-          let k = and_parts (leads c.role) ((b == c.ballot) && nat_le n (held c)) t in
-          let at : b ≡ c.ballot = eqb-true b c.ballot (and_parts (b == c.ballot) (nat_le n (held c)) k.1).0 in
-          let r = told p given in
-          with_role f p hist s here c g (with_ack c.role from n) (heard_role c p g from n (subst (λ y. In (Ack y from n) p.told) at r.0) r.1 apart c.role g.role)))
-        (advance_does (heard c from n)))
+      (by_step f s xs c (heard c from n) [] (λ p hist g given.
+      let k = and_parts (leads c.role) ((b == c.ballot) && nat_le n (held c)) t in
+      let at : b ≡ c.ballot = eqb-true b c.ballot (and_parts (b == c.ballot) (nat_le n (held c)) k.1).0 in
+      let r = told p given in
+      with_role f p hist s here c g (with_ack c.role from n) (heard_role c p g from n (subst (λ y. In (Ack y from n) p.told) at r.0) r.1 apart c.role g.role)))
+      (advance_does (heard c from n)))
       (λ t. nothing_keeps f s xs c)
 
   -- CATCHUP
@@ -308,7 +307,7 @@ module _ {E : Type 0} (dec : IsDecided E) (f s : ℕ) (here : In s (sites f)) (x
   unfolding catch_up
   catch_up_does c from n apart = cond_both (nat_lt n (count c)) (sending c ((from, Learn (n + 1) (take WINDOW (drop n c.chosen))) ∷ [])) (dropped c) (λ (r : Stepped E). Does f s xs c r)
       (λ t. by_step f s xs c c ((from, Learn (n + 1) (take WINDOW (drop n c.chosen))) ∷ []) (λ p hist g given.
-        sends_alone f p hist s here c g ((from, Learn (n + 1) (take WINDOW (drop n c.chosen))) ∷ []) (to_one_ok f s here p from (Learn (n + 1) (take WINDOW (drop n c.chosen))) apart (page_ok c p g n (ltb-true n (count c) t)))))
+      sends_alone f p hist s here c g ((from, Learn (n + 1) (take WINDOW (drop n c.chosen))) ∷ []) (to_one_ok f s here p from (Learn (n + 1) (take WINDOW (drop n c.chosen))) apart (page_ok c p g n (ltb-true n (count c) t)))))
       (λ t. nothing_keeps f s xs c)
 
   -- APPEND
@@ -321,8 +320,8 @@ module _ {E : Type 0} (dec : IsDecided E) (f s : ℕ) (here : In s (sites f)) (x
   unfolding append
   append_does c e = cond_both (may_append c) (put_in c e) (dropped c) (λ (r : Stepped E). Does f s xs c r)
       (λ t. and_then f s xs c (joined c e) (advance (joined c e)).log (to_others c (Accept c.ballot (held c + 1) e)) (advance (joined c e)).out.sends
-        (by_step f s xs c (joined c e) (to_others c (Accept c.ballot (held c + 1) e)) (λ p hist g given. append_in c e c.role refl (and_parts (leads c.role) (nat_lt (length c.tail) WINDOW) t).0 p hist g))
-        (advance_does (joined c e)))
+      (by_step f s xs c (joined c e) (to_others c (Accept c.ballot (held c + 1) e)) (λ p hist g given. append_in c e c.role refl (and_parts (leads c.role) (nat_lt (length c.tail) WINDOW) t).0 p hist g))
+      (advance_does (joined c e)))
       (λ t. nothing_keeps f s xs c)
 
   -- TICK
@@ -381,9 +380,9 @@ module _ {E : Type 0} (dec : IsDecided E) (f s : ℕ) (here : In s (sites f)) (x
   unfolding tick
   tick_does c = by_step f s xs c c (to_others c (CatchUp (count c)) ++ repeats c c.role) (λ p hist g given.
       sends_alone f p hist s here c g (to_others c (CatchUp (count c)) ++ repeats c c.role) (λ x i. ⊎_elim
-        (λ a. to_others_ok f s here p c g.f_is g.site_is (CatchUp (count c)) tt x a)
-        (λ a. repeats_ok c p g c.role g.role x a)
-        (in_either x (to_others c (CatchUp (count c))) (repeats c c.role) i)))
+      (λ a. to_others_ok f s here p c g.f_is g.site_is (CatchUp (count c)) tt x a)
+      (λ a. repeats_ok c p g c.role g.role x a)
+      (in_either x (to_others c (CatchUp (count c))) (repeats c c.role) i)))
 
   -- LEARN
   module _ (eq : E → E → Bool) (decides : (x y : E) → Decides (eq x y) (x ≡ y)) where
@@ -399,18 +398,18 @@ module _ {E : Type 0} (dec : IsDecided E) (f s : ℕ) (here : In s (sites f)) (x
     learn_with : (c : BallotLog E) (es : List E) → ((p : Past E) → HistoryOk f p → SiteOk f p s c → ((x : Sent E) → In x xs → SentOk f p x) → Chosen p (c.chosen ++ es)) → Does f s xs c (learn_from eq c es)
     learn_with c es told = cond_both (starts_with eq c.tail es) (drop (length es) c.tail) [] (λ tail. Does f s xs c (before [] es (start (record c { chosen = c.chosen ++ es; tail = tail }))))
         (λ t. and_then f s xs c (record c { chosen = c.chosen ++ es; tail = drop (length es) c.tail }) (start (record c { chosen = c.chosen ++ es; tail = drop (length es) c.tail })).log [] (start (record c { chosen = c.chosen ++ es; tail = drop (length es) c.tail })).out.sends
-          (by_step f s xs c (record c { chosen = c.chosen ++ es; tail = drop (length es) c.tail }) [] (λ p hist g given. learn_front dec f p hist s here c g es (told p hist g given) (at_front c es t)))
-          (start_does (record c { chosen = c.chosen ++ es; tail = drop (length es) c.tail })))
+        (by_step f s xs c (record c { chosen = c.chosen ++ es; tail = drop (length es) c.tail }) [] (λ p hist g given. learn_front dec f p hist s here c g es (told p hist g given) (at_front c es t)))
+        (start_does (record c { chosen = c.chosen ++ es; tail = drop (length es) c.tail })))
         (λ t. and_then f s xs c (record c { chosen = c.chosen ++ es; tail = [] }) (start (record c { chosen = c.chosen ++ es; tail = [] })).log [] (start (record c { chosen = c.chosen ++ es; tail = [] })).out.sends
-          (by_step f s xs c (record c { chosen = c.chosen ++ es; tail = [] }) [] (λ p hist g given. learn_apart dec f p hist s here c g es (told p hist g given) (not_at_front c es t)))
-          (start_does (record c { chosen = c.chosen ++ es; tail = [] })))
+        (by_step f s xs c (record c { chosen = c.chosen ++ es; tail = [] }) [] (λ p hist g given. learn_apart dec f p hist s here c g es (told p hist g given) (not_at_front c es t)))
+        (start_does (record c { chosen = c.chosen ++ es; tail = [] })))
 
     pub learn_does : (c : BallotLog E) (first : ℕ) (es : List E) → ((p : Past E) → ((x : Sent E) → In x xs → SentOk f p x) → LearnOk p first es) → Does f s xs c (learn eq c first es)
     unfolding learn
     learn_does c first es told = cond_both (may_learn c first es) (learn_from eq c (drop (known c first) es)) (dropped c) (λ (r : Stepped E). Does f s xs c r)
         (λ t.
-          let k = and_parts (nat_le (first - 1) (count c)) (nat_lt (known c first) (length es)) t in
-          learn_with c (drop (known c first) es) (λ p hist g given. page_chosen dec f p hist s here c g first es (told p given) (leb-true (first - 1) (count c) k.0) (ltb-true (known c first) (length es) k.1)))
+        let k = and_parts (nat_le (first - 1) (count c)) (nat_lt (known c first) (length es)) t in
+        learn_with c (drop (known c first) es) (λ p hist g given. page_chosen dec f p hist s here c g first es (told p given) (leb-true (first - 1) (count c) k.0) (ltb-true (known c first) (length es) k.1)))
         (λ t. nothing_keeps f s xs c)
 
     -- ANY MESSAGE that was sent here

@@ -45,7 +45,6 @@ module _ {E : Type 0} where
   same_length zero xs ys le h = omega arith
   same_length (suc n) xs ys le h = let b = below_some ys n (omega arith) in let k = some_below xs n b.0 (h.at n (omega arith) ∙ b.1) in omega arith
 
-
 module _ {E : Type 0} (dec : IsDecided E) where
   get_eq : (a b : Option E) → (a ≡ b) ⊎ (a ≡ b → ⊥)
   get_eq None None = inl refl
@@ -64,7 +63,6 @@ module _ {E : Type 0} (dec : IsDecided E) where
       on (inl h) (inl e) = inl (record { at = more h e })
       on (inl h) (inr e) = inr (λ s. e (s.at n (omega arith)))
       on (inr h) e = inr (λ s. h (same_less n (omega arith) s))
-
 
 module _ {E : Type 0} where
   pub get_drop : (n : ℕ) (xs : List E) (k : ℕ) → slice_get (drop n xs) k ≡ slice_get xs (n + k)

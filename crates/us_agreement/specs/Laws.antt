@@ -1,7 +1,6 @@
 -- What holds of every run of the small world of 2f + 1 ballot logs.
 use Rattle.std.specs.Prelude.{◌≡◌, ℕ, ◌+◌, ◌*◌, ◌<◌, ◌≤◌, List, [], ◌∷◌, ◌++◌, length, Bool, true, if◌then◌else◌, ◌⊎◌, Some, slice_get}
 use Rattle.us_kind.specs.Words.{In}
-use Rattle.us_ballot_model.specs.declared.log.BallotLog.{BallotLog}
 use Rattle.us_ballot_model.specs.Ballots.{sites, owner, next_ballot, WINDOW}
 use Rattle.us_ballot_model.specs.Rules.{trimmed}
 use Rattle.us_ballot_model.specs.Worlds.{World, Happening, run, opening_world}

@@ -25,7 +25,12 @@ fn ready<E: Slot>(log: &BallotLog<E>, acks: &[Option<u64>; 9]) -> usize
 }
 
 /// The first entries of the tail are chosen.
-fn choose<E: Slot>(alloc: Global, log: &mut BallotLog<E>, k: usize, out: &mut BallotOut<E>) -> Result<(), Memory>
+fn choose<E: Slot>(
+    alloc: Global,
+    log: &mut BallotLog<E>,
+    k: usize,
+    out: &mut BallotOut<E>,
+) -> Result<(), Memory>
     requires { IsLog log.old }
     ensures kept { IsLog log.new }
     ensures log { OnOk result (log.new ≡ (advanced log.old k).log) }
@@ -52,7 +57,11 @@ fn ready_as<E: Slot>(log: &BallotLog<E>) -> usize
 
 /// A leader's entries that f + 1 sites hold are chosen, and all others learn them.
 #[tactic(auto, unfolding(us_ballot_model::specs::Rules::advance), using(crate::proofs::Onto::onto_dropped))]
-pub fn advance<E: Slot>(alloc: Global, log: &mut BallotLog<E>, out: &mut BallotOut<E>) -> Result<(), Memory>
+pub fn advance<E: Slot>(
+    alloc: Global,
+    log: &mut BallotLog<E>,
+    out: &mut BallotOut<E>,
+) -> Result<(), Memory>
     requires { IsLog log.old }
     ensures kept { IsLog log.new }
     ensures log { OnOk result (log.new ≡ (advance log.old).log) }

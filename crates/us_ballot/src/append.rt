@@ -16,7 +16,12 @@ use us_kind::{Memory, Slot};
 const TAIL: usize = 8;
 
 /// The entry joins the tail, and the others are told.
-fn put_in<E: Slot>(alloc: Global, log: &mut BallotLog<E>, entry: E, out: &mut BallotOut<E>) -> Result<(), Memory>
+fn put_in<E: Slot>(
+    alloc: Global,
+    log: &mut BallotLog<E>,
+    entry: E,
+    out: &mut BallotOut<E>,
+) -> Result<(), Memory>
     requires log { IsLog log.old }
     requires room { length log.old.tail < WINDOW }
     ensures kept { IsLog log.new }
@@ -35,7 +40,11 @@ fn put_in<E: Slot>(alloc: Global, log: &mut BallotLog<E>, entry: E, out: &mut Ba
 
 /// A leader whose tail has room puts the entry into the next slot.
 #[tactic(auto, unfolding(us_ballot_model::specs::Rules::append, us_ballot_model::specs::Rules::append_answer))]
-pub fn append<E: Slot>(alloc: Global, log: &mut BallotLog<E>, entry: E) -> Result<Appended<E>, Memory>
+pub fn append<E: Slot>(
+    alloc: Global,
+    log: &mut BallotLog<E>,
+    entry: E,
+) -> Result<Appended<E>, Memory>
     requires { IsLog log.old }
     ensures kept { IsLog log.new }
     ensures log { OnOk result (log.new ≡ (append log.old entry).log) }

@@ -72,15 +72,31 @@ fn take_message<E: Slot>(
             };
             promise(alloc, log, ballot, vow, out)
         }
-        BallotMessage::NewState { ballot, base, tail } => new_state(alloc, log, from, ballot, base, tail.as_slice(), out),
+        BallotMessage::NewState { ballot, base, tail } => new_state(
+            alloc,
+            log,
+            from,
+            ballot,
+            base,
+            tail.as_slice(),
+            out,
+        ),
         BallotMessage::Accept {
             ballot,
             slot,
             entry,
         } => accept(log, from, ballot, slot, entry, out),
-        BallotMessage::Accepted { ballot, length } => accepted(alloc, log, from, ballot, length, out),
+        BallotMessage::Accepted { ballot, length } => accepted(
+            alloc, log, from, ballot, length, out,
+        ),
         BallotMessage::CatchUp { length } => catch_up(alloc, log, from, length, out),
-        BallotMessage::Learn { first, entries } => learn(alloc, log, first, entries.as_slice(), out),
+        BallotMessage::Learn { first, entries } => learn(
+            alloc,
+            log,
+            first,
+            entries.as_slice(),
+            out,
+        ),
     }
 }
 

@@ -28,7 +28,12 @@ fn own_vow<E: Slot>(alloc: Global, log: &BallotLog<E>) -> Result<Vow<E>, Memory>
 }
 
 /// Collects promises for the ballot, the own one first.
-fn lead_in<E: Slot>(alloc: Global, log: &mut BallotLog<E>, ballot: u64, out: &mut BallotOut<E>) -> Result<(), Memory>
+fn lead_in<E: Slot>(
+    alloc: Global,
+    log: &mut BallotLog<E>,
+    ballot: u64,
+    out: &mut BallotOut<E>,
+) -> Result<(), Memory>
     requires { IsLog log.old }
     ensures kept { IsLog log.new }
     ensures log { OnOk result (log.new ≡ (lead_in log.old ballot).log) }
@@ -47,7 +52,11 @@ fn lead_in<E: Slot>(alloc: Global, log: &mut BallotLog<E>, ballot: u64, out: &mu
 
 /// Wants to lead the next ballot of its own.
 #[tactic(auto, unfolding(us_ballot_model::specs::Rules::lead))]
-pub fn lead<E: Slot>(alloc: Global, log: &mut BallotLog<E>, out: &mut BallotOut<E>) -> Result<(), Memory>
+pub fn lead<E: Slot>(
+    alloc: Global,
+    log: &mut BallotLog<E>,
+    out: &mut BallotOut<E>,
+) -> Result<(), Memory>
     requires { IsLog log.old }
     ensures kept { IsLog log.new }
     ensures log { OnOk result (log.new ≡ (lead log.old).log) }

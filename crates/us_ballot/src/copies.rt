@@ -47,7 +47,10 @@ pub fn copies_from<E: Slot>(alloc: Global, entries: &[E], n: usize) -> Result<It
 }
 
 /// A copy of the message.
-pub fn copy_message<E: Slot>(alloc: Global, message: &BallotMessage<E>) -> Result<BallotMessage<E>, Memory>
+pub fn copy_message<E: Slot>(
+    alloc: Global,
+    message: &BallotMessage<E>,
+) -> Result<BallotMessage<E>, Memory>
     ensures { IfOk result (λ copy. copy ≡ message.now) }
 {
     match message {

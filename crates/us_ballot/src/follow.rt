@@ -17,7 +17,12 @@ const TAIL: usize = 8;
 
 /// Tells the leader what is held of its ballot's log.
 #[tactic(auto, using(crate::proofs::Onto::onto_sending))]
-fn acknowledge<E: Slot>(log: &BallotLog<E>, from: u8, ballot: u64, out: &mut BallotOut<E>) -> Result<(), Memory>
+fn acknowledge<E: Slot>(
+    log: &BallotLog<E>,
+    from: u8,
+    ballot: u64,
+    out: &mut BallotOut<E>,
+) -> Result<(), Memory>
     ensures { OnOk result (out.new ≡ onto out.old (acknowledging log.now from ballot)) }
 {
     let length = number(held(log))?;
@@ -43,7 +48,13 @@ fn state_in<E: Slot>(
 {
     let chosen = log.chosen.len();
     if (chosen as u64) < base {
-        return send(from, BallotMessage::CatchUp { length: chosen as u64 }, out);
+        return send(
+            from,
+            BallotMessage::CatchUp {
+                length: chosen as u64,
+            },
+            out,
+        );
     }
     if log.accepted >= ballot {
         return acknowledge(log, from, ballot, out);
@@ -95,7 +106,10 @@ fn may_accept<E: Slot>(log: &BallotLog<E>, from: u8, ballot: u64) -> bool
     requires { IsLog log.now }
     ensures { result ≡ may_accept log.now from ballot }
 {
-    follows(&log.role) && owner(log.f, ballot) == from && ballot == log.ballot && ballot == log.accepted
+    follows(&log.role)
+        && owner(log.f, ballot) == from
+        && ballot == log.ballot
+        && ballot == log.accepted
 }
 
 /// The entry joins the tail where its slot is the next.

@@ -15,7 +15,13 @@ use us_ballot_model::{BallotLog, BallotMessage, BallotOut, Role, Vow};
 use us_kind::{Memory, Slot};
 
 /// Tells the entries again, from this slot on.
-fn send_accepts<E: Slot>(to: u8, ballot: u64, slot: u128, entries: &[E], out: &mut BallotOut<E>) -> Result<(), Memory>
+fn send_accepts<E: Slot>(
+    to: u8,
+    ballot: u64,
+    slot: u128,
+    entries: &[E],
+    out: &mut BallotOut<E>,
+) -> Result<(), Memory>
     requires { slot < 2 ^ 65 }
     ensures { OnOk result (out.new ≡ more out.old (accepts to ballot slot entries.now)) }
 {
@@ -33,7 +39,12 @@ fn send_accepts<E: Slot>(to: u8, ballot: u64, slot: u128, entries: &[E], out: &m
 }
 
 /// Tells the entries of the tail behind so many again.
-fn send_after<E: Slot>(log: &BallotLog<E>, to: u8, length: u64, out: &mut BallotOut<E>) -> Result<(), Memory>
+fn send_after<E: Slot>(
+    log: &BallotLog<E>,
+    to: u8,
+    length: u64,
+    out: &mut BallotOut<E>,
+) -> Result<(), Memory>
     requires { count log.now ≤ length }
     ensures { OnOk result (out.new ≡ more out.old (accepts_after log.now to length)) }
 {
@@ -42,7 +53,13 @@ fn send_after<E: Slot>(log: &BallotLog<E>, to: u8, length: u64, out: &mut Ballot
     if behind >= tail.len() as u64 {
         return Ok(());
     }
-    send_accepts(to, log.ballot, u128::from(length) + 1, &tail[behind as usize..], out)
+    send_accepts(
+        to,
+        log.ballot,
+        u128::from(length) + 1,
+        &tail[behind as usize..],
+        out,
+    )
 }
 
 /// Tells a site what it hasn't acknowledged.
@@ -87,7 +104,11 @@ fn repeat_all<E: Slot>(
 }
 
 /// Asks each other site for its promise that hasn't given it.
-fn ask_missing<E: Slot>(log: &BallotLog<E>, vows: &[Vow<E>], out: &mut BallotOut<E>) -> Result<(), Memory>
+fn ask_missing<E: Slot>(
+    log: &BallotLog<E>,
+    vows: &[Vow<E>],
+    out: &mut BallotOut<E>,
+) -> Result<(), Memory>
     requires { IsLog log.now }
     ensures { OnOk result (out.new ≡ more out.old (map (λ j. (j, NewBallot log.now.ballot)) (missing log.now vows.now))) }
 {
@@ -119,11 +140,17 @@ fn repeats<E: Slot>(alloc: Global, log: &BallotLog<E>, out: &mut BallotOut<E>) -
 
 /// Time has passed.
 #[tactic(auto, unfolding(us_ballot_model::specs::Rules::tick))]
-pub fn tick<E: Slot>(alloc: Global, log: &BallotLog<E>, out: &mut BallotOut<E>) -> Result<(), Memory>
+pub fn tick<E: Slot>(
+    alloc: Global,
+    log: &BallotLog<E>,
+    out: &mut BallotOut<E>,
+) -> Result<(), Memory>
     requires { IsLog log.now }
     ensures { OnOk result (out.new ≡ onto out.old (tick log.now)) }
 {
-    let ask = BallotMessage::CatchUp { length: log.chosen.len() as u64 };
+    let ask = BallotMessage::CatchUp {
+        length: log.chosen.len() as u64,
+    };
     send_to_others(alloc, log, &ask, out)?;
     repeats(alloc, log, out)
 }

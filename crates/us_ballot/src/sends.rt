@@ -20,7 +20,11 @@ pub fn nothing<E: Slot>(alloc: Global) -> BallotOut<E>
 }
 
 /// Sends a message to one site.
-pub fn send<E: Slot>(to: u8, message: BallotMessage<E>, out: &mut BallotOut<E>) -> Result<(), Memory>
+pub fn send<E: Slot>(
+    to: u8,
+    message: BallotMessage<E>,
+    out: &mut BallotOut<E>,
+) -> Result<(), Memory>
     ensures { OnOk result (out.new ≡ record out.old { sends = out.old.sends ++ (to, message) ∷ [] }) }
 {
     out.sends.push((to, message))?;

@@ -25,7 +25,8 @@ fn is_better<E: Slot>(first: &Vow<E>, second: &Vow<E>) -> bool
 {
     second.accepted < first.accepted
         || (second.accepted == first.accepted
-            && (reach(second) < reach(first) || (reach(second) == reach(first) && first.site < second.site)))
+            && (reach(second) < reach(first)
+                || (reach(second) == reach(first) && first.site < second.site)))
 }
 
 /// The best of a promise and more.
@@ -49,7 +50,11 @@ pub fn vowed<E: Slot>(vows: &[Vow<E>], site: u8) -> bool
 }
 
 /// Tells the others the ballot's state, and chooses what f + 1 sites hold.
-fn begin<E: Slot>(alloc: Global, log: &mut BallotLog<E>, out: &mut BallotOut<E>) -> Result<(), Memory>
+fn begin<E: Slot>(
+    alloc: Global,
+    log: &mut BallotLog<E>,
+    out: &mut BallotOut<E>,
+) -> Result<(), Memory>
     requires { IsLog log.old }
     ensures kept { IsLog log.new }
     ensures log { OnOk result (log.new ≡ (begin log.old).log) }
@@ -105,7 +110,12 @@ fn due<E: Slot>(alloc: Global, log: &BallotLog<E>) -> Result<Option<Vow<E>>, Mem
 
 /// Leads with the best promise's entries, or asks its site for chosen ones that are missing here.
 #[tactic(auto, using(crate::proofs::Onto::onto_sending))]
-fn start_by<E: Slot>(alloc: Global, log: &mut BallotLog<E>, vow: Vow<E>, out: &mut BallotOut<E>) -> Result<(), Memory>
+fn start_by<E: Slot>(
+    alloc: Global,
+    log: &mut BallotLog<E>,
+    vow: Vow<E>,
+    out: &mut BallotOut<E>,
+) -> Result<(), Memory>
     requires log { IsLog log.old }
     requires window { length vow.tail ≤ WINDOW }
     ensures kept { IsLog log.new }
@@ -114,7 +124,13 @@ fn start_by<E: Slot>(alloc: Global, log: &mut BallotLog<E>, vow: Vow<E>, out: &m
 {
     let chosen = log.chosen.len();
     if (chosen as u64) < vow.base {
-        return send(vow.site, BallotMessage::CatchUp { length: chosen as u64 }, out);
+        return send(
+            vow.site,
+            BallotMessage::CatchUp {
+                length: chosen as u64,
+            },
+            out,
+        );
     }
     log.tail = copies_from(alloc, vow.tail.as_slice(), chosen - vow.base as usize)?;
     log.accepted = log.ballot;
@@ -124,7 +140,11 @@ fn start_by<E: Slot>(alloc: Global, log: &mut BallotLog<E>, vow: Vow<E>, out: &m
 
 /// A collector with f + 1 promises leads.
 #[tactic(auto, unfolding(us_ballot_model::specs::Rules::start), using(crate::proofs::Onto::onto_dropped))]
-pub fn start<E: Slot>(alloc: Global, log: &mut BallotLog<E>, out: &mut BallotOut<E>) -> Result<(), Memory>
+pub fn start<E: Slot>(
+    alloc: Global,
+    log: &mut BallotLog<E>,
+    out: &mut BallotOut<E>,
+) -> Result<(), Memory>
     requires { IsLog log.old }
     ensures kept { IsLog log.new }
     ensures log { OnOk result (log.new ≡ (start log.old).log) }

@@ -4,7 +4,9 @@ use us_kind::Items;
 #[derive(Debug, Drop)]
 pub enum BallotMessage<E> {
     /// The ballot's owner wants to lead.
-    NewBallot { ballot: u64 },
+    NewBallot {
+        ballot: u64,
+    },
     /// The sender has moved to the ballot. It tells the ballot that its tail is of, how many entries it has chosen, and its
     /// tail of at most 8.
     Promise {
@@ -20,13 +22,25 @@ pub enum BallotMessage<E> {
         tail: Items<E>,
     },
     /// The leader has put the entry into the slot.
-    Accept { ballot: u64, slot: u64, entry: E },
+    Accept {
+        ballot: u64,
+        slot: u64,
+        entry: E,
+    },
     /// The sender holds the ballot's log up to this length.
-    Accepted { ballot: u64, length: u64 },
+    Accepted {
+        ballot: u64,
+        length: u64,
+    },
     /// The sender has chosen this many entries and asks for the next.
-    CatchUp { length: u64 },
+    CatchUp {
+        length: u64,
+    },
     /// One to 8 chosen entries from the slot `first` on.
-    Learn { first: u64, entries: Items<E> },
+    Learn {
+        first: u64,
+        entries: Items<E>,
+    },
 }
 
 /// What a step gives: messages in order, each with the site that it goes to, and the entries that the step made chosen here.
