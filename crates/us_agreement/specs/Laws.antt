@@ -43,7 +43,8 @@ ChosenEntriesWereAppended {E} eq = (f : ℕ) (hs : List (Happening E)) (s : ℕ)
 
 -- once chosen, an entry is held in its slot by f + 1 sites, whatever happens next
 abbrev pub ChosenEntriesAreHeld : {E : Type 0} → (E → E → Bool) → Type 0
-ChosenEntriesAreHeld {E} eq = (f : ℕ) (hs more : List (Happening E)) (s slot : ℕ) (e : E) → slice_get (chosen_at (after eq f hs) s) slot ≡ Some e → IsHeldByMany f (after eq f (hs ++ more)) slot e
+ChosenEntriesAreHeld {E} eq = (f : ℕ) (hs more : List (Happening E)) (s slot : ℕ) (e : E) →
+    slice_get (chosen_at (after eq f hs) s) slot ≡ Some e → IsHeldByMany f (after eq f (hs ++ more)) slot e
 
 -- a tail has at most 8 entries
 abbrev pub TailsAreShort : {E : Type 0} → (E → E → Bool) → Type 0
