@@ -1,7 +1,7 @@
 -- Of chosen lists one is the front of the other, and what is chosen is held by f + 1 sites.
-use Rattle.std.proofs.Common.{◌≡◌, ◌⊎◌, inl, inr, ⊎_elim, ℕ, ◌+◌, ◌*◌, ◌<◌, ◌≤◌, List, length, drop, Bool, true, Some, sym, ◌∙◌, subst, arith}
+use Rattle.std.proofs.Common.{◌≡◌, ◌⊎◌, inl, inr, ⊎_elim, ℕ, ◌+◌, ◌*◌, ◌<◌, ◌≤◌, List, length, drop, Bool, true, Some, sym, ◌∙◌, arith}
 use Rattle.std.specs.Prelude.{slice_get}
-use Rattle.std.proofs.lemmas.Bool.{cases_eq, cases_lt}
+use Rattle.std.proofs.lemmas.Bool.{cases_eq}
 use Rattle.us_kind.specs.Words.{In}
 use Rattle.us_ballot_model.specs.declared.log.BallotLog.{BallotLog}
 use Rattle.us_ballot_model.specs.Ballots.{sites}
@@ -9,7 +9,7 @@ use Rattle.us_ballot_model.specs.Worlds.{World}
 use Rattle.us_agreement.specs.Words.{count}
 use Rattle.us_agreement.specs.Laws.{IsFront, IsHeldByMany, chosen_at}
 use Rattle.us_agreement.proofs.Same.{IsDecided, some_below, Same, same_sym, same_trans, same_less, same_length, decide_same}
-use Rattle.us_agreement.proofs.History.{Ack, Start, initial, Choice, IsStarted, Blocked, blocked_more, IsChosen, ChoiceOk, not_blocked, choice_above, starts_in}
+use Rattle.us_agreement.proofs.History.{Ack, Start, initial, Choice, IsStarted, Blocked, blocked_more, ChoiceOk, not_blocked, choice_above}
 use Rattle.us_agreement.proofs.Growth.{LogOk, is_own, is_blocked, is_learned}
 use Rattle.us_agreement.proofs.Logs.{le_or_lt, compare, compare_chosen}
 use Rattle.us_agreement.proofs.Counting.{length_sites}

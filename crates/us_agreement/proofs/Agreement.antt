@@ -1,14 +1,13 @@
 -- The laws, from an equality test that decides.
-use Rattle.std.proofs.Common.{◌≡◌, ℕ, ◌≤◌, List, ◌++◌, length, Bool, true, Some, sym, ap, ◌∙◌, subst}
+use Rattle.std.proofs.Common.{◌≡◌, ℕ, List, ◌++◌, Bool, Some, sym, ap, ◌∙◌, subst}
 use Rattle.std.specs.Prelude.{slice_get}
 use Rattle.std.specs.Bool.{Decides}
-use Rattle.us_kind.specs.Words.{In}
-use Rattle.us_ballot_model.specs.Worlds.{World, Happening, run, opening_world}
-use Rattle.us_agreement.specs.Laws.{IsFront, IsHeldByMany, after, chosen_at, ChosenListsAgree, ChosenListsGrow, ChosenEntriesWereAppended, ChosenEntriesAreHeld, TailsAreShort}
+use Rattle.us_ballot_model.specs.Worlds.{World, Happening, opening_world}
+use Rattle.us_agreement.specs.Laws.{IsFront, after, chosen_at, ChosenListsAgree, ChosenListsGrow, ChosenEntriesWereAppended, ChosenEntriesAreHeld, TailsAreShort}
 use Rattle.us_agreement.proofs.Same.{get_front, some_below}
 use Rattle.us_agreement.proofs.Runs.{dec, every_run_ok}
 use Rattle.us_agreement.proofs.Agree.{lists_agree, held_by_many}
-use Rattle.us_agreement.proofs.Entries.{Known, Goes, run_goes, run_both, opening_known}
+use Rattle.us_agreement.proofs.Entries.{Known, run_goes, run_both, opening_known}
 
 module _ {E : Type 0} (eq : E → E → Bool) where
   known_after : (f : ℕ) (hs : List (Happening E)) → Known (after eq f hs)

@@ -1,7 +1,7 @@
 -- Where entries come from, how long tails are, and that chosen lists grow.
-use Rattle.std.proofs.Common.{◌≡◌, ◌⊎◌, inl, inr, ⊎_elim, ℕ, zero, suc, ◌+◌, ◌-◌, ◌<◌, ◌≤◌, List, [], ◌∷◌, ◌++◌, length, length-append, length-drop, map, take, drop, Bool, true, false, Option, Some, None, refl, sym, ap, ◌∙◌, subst, arith, append_assoc, append-nil, true≢false}
-use Rattle.std.specs.Prelude.{◌==◌, ◌&&◌, not, if◌then◌else◌, filter, nat_lt, nat_le, max, slice_get}
-use Rattle.std.specs.List.{flat_map, starts_with}
+use Rattle.std.proofs.Common.{◌≡◌, inl, inr, ⊎_elim, ℕ, zero, suc, ◌+◌, ◌-◌, ◌≤◌, List, [], ◌∷◌, ◌++◌, length, length-append, length-drop, map, take, drop, Bool, true, Option, Some, None, refl, sym, ap, ◌∙◌, subst, arith, append_assoc, append-nil}
+use Rattle.std.specs.Prelude.{◌==◌, ◌&&◌, if◌then◌else◌, nat_lt, nat_le, max, slice_get}
+use Rattle.std.specs.List.{starts_with}
 use Rattle.std.proofs.lemmas.Bool.{cond_both, ltb-true, and_parts}
 use Rattle.us_kind.specs.Words.{In}
 use Rattle.us_kind.proofs.ListLemmas.{in_either, in_front, in_back, in_push, in_got}
@@ -11,9 +11,9 @@ use Rattle.us_ballot_model.specs.declared.log.Role.TheVariants.{Follows, Collect
 use Rattle.us_ballot_model.specs.declared.log.BallotLog.{BallotLog}
 use Rattle.us_ballot_model.specs.declared.message.BallotMessage.{BallotMessage}
 use Rattle.us_ballot_model.specs.declared.message.BallotMessage.TheVariants.{NewBallot, Promise, NewState, Accept, Accepted, CatchUp, Learn}
-use Rattle.us_ballot_model.specs.Ballots.{LAST, WINDOW, next_ballot, others, to_others, count, held, own_vow, vowed, best, ack_of, opening, first_acks}
-use Rattle.us_ballot_model.specs.Rules.{Stepped, sending, dropped, before, ready_as, advanced, advance, led, begin, start_by, best_of, due, start_with, start, collecting, lead_in, lead, may_follow, following, new_ballot, may_promise, with_vow, recorded, promise, restated, acknowledging, state_in, new_state, may_accept, joined, accept_in, tell_accepted, accept, with_ack, heard, may_hear, accepted, catch_up, trimmed, learnt, known, may_learn, learn_from, learn, take_message, missing, accepts, repeated, repeats, tick, may_append, put_in, append}
-use Rattle.us_ballot_model.specs.Worlds.{Sent, World, Happening, Leads as LeadsNow, Appends, Ticks, Crashes, Comes, put, sent_by, acts, stepped, steps, appends, comes, happens, run, opening_world}
+use Rattle.us_ballot_model.specs.Ballots.{LAST, WINDOW, next_ballot, others, to_others, count, held, best, ack_of, first_acks}
+use Rattle.us_ballot_model.specs.Rules.{Stepped, sending, dropped, before, ready_as, advanced, advance, led, begin, start_by, best_of, due, start_with, start, collecting, lead, may_follow, following, new_ballot, may_promise, with_vow, recorded, promise, restated, acknowledging, state_in, new_state, may_accept, joined, accept_in, tell_accepted, accept, with_ack, heard, may_hear, accepted, catch_up, trimmed, learnt, known, may_learn, learn_from, learn, take_message, missing, accepts, repeated, repeats, tick, may_append, put_in, append}
+use Rattle.us_ballot_model.specs.Worlds.{Sent, World, Happening, Leads as LeadsNow, Appends, Ticks, Crashes, Comes, put, sent_by, acts, stepped, steps, comes, happens, run, opening_world}
 use Rattle.us_agreement.specs.Laws.{IsFront, chosen_at}
 use Rattle.us_agreement.proofs.Facts.{at_each}
 use Rattle.us_agreement.proofs.Steps.{in_mapped}

@@ -1,28 +1,23 @@
 -- What a leader's entries, choices and start keep.
-use Rattle.std.proofs.Common.{◌≡◌, ◌⊎◌, inl, inr, ⊎_elim, ℕ, zero, suc, ◌+◌, ◌-◌, ◌*◌, ◌<◌, ◌≤◌, List, [], ◌∷◌, ◌++◌, length, length-append, length-drop, length-take, take, drop, Bool, true, false, Option, Some, None, refl, sym, ap, ◌∙◌, subst, arith, append_assoc, append-nil, true≢false}
-use Rattle.std.specs.Prelude.{◌==◌, ◌&&◌, nat_lt, slice_get}
-use Rattle.std.proofs.Math.Seq.{drop-append_seam}
-use Rattle.std.proofs.lemmas.List.{take-append-drop, drop-drop}
-use Rattle.std.proofs.lemmas.Bool.{cases_eq, cases_lt, eqb-true, ltb-true, leb-true, and_parts, or_cases}
+use Rattle.std.proofs.Common.{◌≡◌, ◌⊎◌, inl, inr, ⊎_elim, ℕ, ◌+◌, ◌-◌, ◌*◌, ◌<◌, ◌≤◌, List, [], ◌∷◌, ◌++◌, length, length-append, length-take, take, drop, true, Option, Some, None, refl, sym, ap, ◌∙◌, subst, arith, append_assoc, true≢false}
+use Rattle.std.specs.Prelude.{◌==◌, nat_lt, slice_get}
+use Rattle.std.proofs.lemmas.List.{take-append-drop}
+use Rattle.std.proofs.lemmas.Bool.{cases_eq, eqb-true, ltb-true, leb-true, and_parts, or_cases}
 use Rattle.us_kind.specs.Words.{In}
-use Rattle.us_kind.proofs.ListLemmas.{in_either, in_front, in_back}
-use Rattle.us_ballot_model.specs.declared.log.Vow.{Vow}
-use Rattle.us_ballot_model.specs.declared.log.Role.{Role}
-use Rattle.us_ballot_model.specs.declared.log.Role.TheVariants.{Follows, Collects, Leads}
+use Rattle.us_ballot_model.specs.declared.log.Role.TheVariants.{Leads}
 use Rattle.us_ballot_model.specs.declared.log.BallotLog.{BallotLog}
-use Rattle.us_ballot_model.specs.declared.message.BallotMessage.{BallotMessage}
-use Rattle.us_ballot_model.specs.declared.message.BallotMessage.TheVariants.{NewBallot, Promise, NewState, Accept, Accepted, CatchUp, Learn}
-use Rattle.us_ballot_model.specs.Ballots.{sites, owner, others, to_others, count, held, at_least, ack_of, flat, backers}
-use Rattle.us_ballot_model.specs.Worlds.{Sent, put}
+use Rattle.us_ballot_model.specs.declared.message.BallotMessage.TheVariants.{Accept, Learn}
+use Rattle.us_ballot_model.specs.Ballots.{sites, owner, to_others, count, held, at_least, ack_of, flat, backers}
+use Rattle.us_ballot_model.specs.Worlds.{put}
 use Rattle.us_agreement.specs.Words.{count as count_of}
-use Rattle.us_agreement.proofs.Same.{IsDecided, merged, some_below, Same, same_refl, same_sym, same_trans, same_less, same_front, get_front, get_back}
-use Rattle.us_agreement.proofs.History.{Acknowledgement, Ack, Start, initial, Choice, IsStarted, Blocked, blocked_more, IsChosen, StartOk, StartsOk, ChoiceOk, not_blocked}
-use Rattle.us_agreement.proofs.Growth.{LogOk, is_own, is_blocked, is_learned, LogFacts, AckFacts, Grows, started_later, chosen_later, blocked_later, log_later, ack_later, best_later}
-use Rattle.us_agreement.proofs.Logs.{le_or_lt, length-merged, log_ok_same, against}
+use Rattle.us_agreement.proofs.Same.{IsDecided, Same, same_refl, same_sym, same_trans, same_less, same_front, get_back}
+use Rattle.us_agreement.proofs.History.{Acknowledgement, Ack, Start, initial, Choice, IsStarted, Blocked, blocked_more, ChoiceOk, not_blocked}
+use Rattle.us_agreement.proofs.Growth.{LogOk, is_own, is_blocked, is_learned, Grows, chosen_later, log_later, ack_later}
+use Rattle.us_agreement.proofs.Logs.{le_or_lt, log_ok_same, against}
 use Rattle.us_agreement.proofs.Counting.{has, acked, backers_count, majority_of}
-use Rattle.us_agreement.proofs.Facts.{Past, whole, LogIs, Chosen, AckIs, StateOk, AcceptOk, LearnOk, SentOk, IsLeading, AcksOk, LeadOk, RoleOk, SiteOk, HistoryOk, Owes, owes_nothing, starts_kept, choices_kept, acks_later, put_same, put_other, at_each}
+use Rattle.us_agreement.proofs.Facts.{Past, whole, LogIs, Chosen, AckIs, IsLeading, LeadOk, RoleOk, SiteOk, HistoryOk, Owes, starts_kept, choices_kept, acks_later, put_same, put_other, at_each}
 use Rattle.us_agreement.proofs.Steps.{Step, to_others_ok}
-use Rattle.us_agreement.proofs.Moves.{get_append, told_past, told_owes, told_history}
+use Rattle.us_agreement.proofs.Moves.{get_append, told_past, told_history}
 
 -- the log of one ballot grows
 pub put_grows : {E : Type 0} (hs : List (Start E)) (logs : ℕ → List E) (cs : List (Choice E)) (b : ℕ) (l : List E) → length (logs b) ≤ length l → Same (length (logs b)) (logs b) l → Grows hs hs logs (put logs b l) cs cs

@@ -1,9 +1,9 @@
 -- A learner's tail, entry by entry.
-use Rattle.std.proofs.Common.{◌≡◌, suc, List, [], ◌∷◌, length, take, drop, Bool, true, false, refl, sym, ◌∙◌}
+use Rattle.std.proofs.Common.{◌≡◌, List, [], ◌∷◌, length, drop, Bool, true, false, refl, sym}
 use Rattle.std.specs.Prelude.{◌&&◌, if◌then◌else◌}
 use Rattle.std.specs.List.{starts_with}
 use Rattle.us_ballot_model.specs.Rules.{trimmed}
-use Rattle.us_agreement.specs.Laws.{after_entry, after_entries}
+use Rattle.us_agreement.specs.Laws.{after_entries}
 
 nothing_left : {E : Type 0} (eq : E → E → Bool) (es : List E) → after_entries eq es [] ≡ []
 nothing_left eq [] = refl

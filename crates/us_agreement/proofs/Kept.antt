@@ -1,28 +1,27 @@
 -- Each rule keeps the facts.
 use Rattle.std.proofs.Common.{◌≡◌, ◌⊎◌, inl, inr, ⊎_elim, ℕ, zero, suc, ◌+◌, ◌-◌, ◌*◌, ◌<◌, ◌≤◌, List, [], ◌∷◌, ◌++◌, length, length-append, length-drop, length-take, map, take, drop, Bool, true, false, Option, Some, None, refl, sym, ap, ◌∙◌, subst, arith, true≢false}
-use Rattle.std.specs.Prelude.{◌==◌, ◌&&◌, ◌||◌, not, if◌then◌else◌, filter, nat_lt, nat_le, max, slice_get, slice_set}
+use Rattle.std.specs.Prelude.{◌==◌, ◌&&◌, ◌||◌, not, filter, nat_lt, nat_le, max, slice_get, slice_set}
 use Rattle.std.specs.List.{flat_map, starts_with}
 use Rattle.std.specs.Bool.{Decides}
 use Rattle.std.proofs.lemmas.Slice.Eq.{starts_is}
-use Rattle.std.proofs.lemmas.List.{take-append-drop}
 use Rattle.std.proofs.Math.Seq.{drop-append_seam}
-use Rattle.std.proofs.lemmas.Bool.{cases_eq, cases_lt, cond_both, eqb-true, eq-eqb, ltb-true, ltb-false, leb-true, and_parts}
+use Rattle.std.proofs.lemmas.Bool.{cases_lt, cond_both, eqb-true, eq-eqb, ltb-true, ltb-false, leb-true, and_parts}
 use Rattle.us_kind.specs.Words.{In}
-use Rattle.us_kind.proofs.ListLemmas.{in_either, in_front, in_push, in_filter, in_map}
+use Rattle.us_kind.proofs.ListLemmas.{in_either, in_push, in_filter, in_map}
 use Rattle.us_ballot_model.specs.declared.log.Vow.{Vow}
 use Rattle.us_ballot_model.specs.declared.log.Role.{Role}
 use Rattle.us_ballot_model.specs.declared.log.Role.TheVariants.{Follows, Collects, Leads}
 use Rattle.us_ballot_model.specs.declared.log.BallotLog.{BallotLog}
 use Rattle.us_ballot_model.specs.declared.message.BallotMessage.{BallotMessage}
 use Rattle.us_ballot_model.specs.declared.message.BallotMessage.TheVariants.{NewBallot, Promise, NewState, Accept, Accepted, CatchUp, Learn}
-use Rattle.us_ballot_model.specs.Ballots.{LAST, WINDOW, sites, owner, next_ballot, others, to_others, count, held, vowed, own_vow, best, backers, ack_of, flat, follows, leads, most}
-use Rattle.us_ballot_model.specs.Rules.{Stepped, sending, dropped, before, ready, ready_as, advanced, advance_by, advance, led, begin, start_by, best_of, due, start_with, start, collecting, lead_in, lead, may_follow, following, new_ballot, may_record, may_promise, with_vow, recorded, promise, restated, acknowledging, state_in, new_state, may_accept, joined, accept_in, tell_accepted, accept, risen, raised, with_ack, heard, may_hear, accepted, catch_up, trimmed, learnt, known, may_learn, learn_from, learn, take_message, missing, accepts, accepts_after, repeated, repeats, tick, may_append, put_in, append}
-use Rattle.us_ballot_model.specs.Worlds.{Sent, put, sent_by}
+use Rattle.us_ballot_model.specs.Ballots.{LAST, WINDOW, sites, owner, next_ballot, others, to_others, count, held, vowed, own_vow, best, backers, ack_of, flat, follows, leads}
+use Rattle.us_ballot_model.specs.Rules.{Stepped, sending, dropped, before, ready, ready_as, advanced, advance, led, begin, start_by, best_of, due, start_with, start, collecting, lead, may_follow, following, new_ballot, may_promise, with_vow, recorded, promise, restated, acknowledging, state_in, new_state, may_accept, joined, accept_in, tell_accepted, accept, risen, raised, with_ack, heard, may_hear, accepted, catch_up, known, may_learn, learn_from, learn, take_message, missing, accepts, repeated, repeats, tick, may_append, put_in, append}
+use Rattle.us_ballot_model.specs.Worlds.{Sent}
 use Rattle.us_agreement.proofs.Same.{IsDecided, Same, get_drop, get_back}
-use Rattle.us_agreement.proofs.History.{Acknowledgement, Ack}
+use Rattle.us_agreement.proofs.History.{Ack}
 use Rattle.us_agreement.proofs.Counting.{site_within}
 use Rattle.us_agreement.proofs.Owners.{owner_next, next_above, most_fits, most_passes}
-use Rattle.us_agreement.proofs.Facts.{Past, whole, LogIs, Chosen, VowOk, StateOk, AcceptOk, LearnOk, MessageOk, SentOk, AllApart, CollectOk, AcksOk, LeadOk, RoleOk, SiteOk, HistoryOk, owes_nothing, put_same}
+use Rattle.us_agreement.proofs.Facts.{Past, whole, LogIs, Chosen, VowOk, StateOk, AcceptOk, LearnOk, MessageOk, SentOk, AllApart, CollectOk, AcksOk, RoleOk, SiteOk, HistoryOk, owes_nothing}
 use Rattle.us_agreement.proofs.Steps.{Step, Keeps, by_step, and_then, nothing_keeps, to_others_ok, to_one_ok, sends_alone, raised_past, own_vow_ok, revow, with_role, in_mapped, not_equal}
 use Rattle.us_agreement.proofs.Moves.{learn_front, learn_apart, page_chosen, restate, acknowledge, join, get_append}
 use Rattle.us_agreement.proofs.Growing.{append_step, advance_step}

@@ -1,27 +1,21 @@
 -- What learning, a leader's state, its entries and its choices keep.
-use Rattle.std.proofs.Common.{◌≡◌, ◌⊎◌, inl, inr, ⊎_elim, ℕ, zero, suc, ◌+◌, ◌-◌, ◌*◌, ◌<◌, ◌≤◌, List, [], ◌∷◌, ◌++◌, length, length-append, length-drop, length-take, take, drop, Bool, true, false, Option, Some, None, refl, sym, ap, ◌∙◌, subst, arith, append_assoc, append-nil, true≢false}
-use Rattle.std.specs.Prelude.{◌==◌, if◌then◌else◌, nat_lt, nat_le, slice_get}
-use Rattle.std.specs.List.{starts_with}
+use Rattle.std.proofs.Common.{◌≡◌, inl, inr, ⊎_elim, ℕ, ◌+◌, ◌-◌, ◌<◌, ◌≤◌, List, [], ◌∷◌, ◌++◌, length, length-append, length-drop, drop, refl, sym, ap, ◌∙◌, subst, arith, append_assoc, append-nil}
+use Rattle.std.specs.Prelude.{slice_get}
 use Rattle.std.proofs.Math.Seq.{drop-append_seam}
-use Rattle.std.proofs.lemmas.List.{take-append-drop, drop-drop}
-use Rattle.std.proofs.lemmas.Bool.{cases_eq, cases_lt, eq-eqb, ne_eqb, eqb-true, cond_both, ltb-true, ltb-false, leb-true, and_parts, or_cases}
+use Rattle.std.proofs.lemmas.List.{drop-drop}
+use Rattle.std.proofs.lemmas.Bool.{cases_lt}
 use Rattle.us_kind.specs.Words.{In}
-use Rattle.us_kind.proofs.ListLemmas.{in_either, in_front, in_back}
-use Rattle.us_ballot_model.specs.declared.log.Vow.{Vow}
 use Rattle.us_ballot_model.specs.declared.log.Role.{Role}
 use Rattle.us_ballot_model.specs.declared.log.Role.TheVariants.{Follows, Collects, Leads}
 use Rattle.us_ballot_model.specs.declared.log.BallotLog.{BallotLog}
-use Rattle.us_ballot_model.specs.declared.message.BallotMessage.{BallotMessage}
-use Rattle.us_ballot_model.specs.declared.message.BallotMessage.TheVariants.{NewBallot, Promise, NewState, Accept, Accepted, CatchUp, Learn}
-use Rattle.us_ballot_model.specs.Ballots.{sites, owner, others, to_others, count, held, at_least, flat, backers}
-use Rattle.us_ballot_model.specs.Worlds.{Sent, put}
-use Rattle.us_agreement.specs.Words.{count as count_of}
-use Rattle.us_agreement.proofs.Same.{IsDecided, merged, some_below, Same, same_refl, same_sym, same_trans, same_less, same_front, get_drop, get_front, get_back, merged-front, merged-back}
-use Rattle.us_agreement.proofs.History.{Acknowledgement, Ack, Start, initial, Choice, IsStarted, Blocked, blocked_more, IsChosen, StartOk, ChoiceOk, not_blocked}
-use Rattle.us_agreement.proofs.Growth.{LogOk, is_own, is_blocked, is_learned, LogFacts, AckFacts, Grows, started_later, chosen_later, log_later, ack_later, best_later}
-use Rattle.us_agreement.proofs.Logs.{le_or_lt, length-merged, log_ok_same, against, compare_chosen, chosen_log, learn_log, learn_ack, learn_leader, merged_log}
-use Rattle.us_agreement.proofs.Facts.{Past, whole, LogIs, Chosen, AckIs, VowOk, StateOk, AcceptOk, LearnOk, MessageOk, SentOk, IsLeading, CollectOk, AcksOk, LeadOk, RoleOk, SiteOk, HistoryOk, Owes, owes_nothing, starts_kept, choices_kept, vow_later, acks_later}
-use Rattle.us_agreement.proofs.Steps.{Step, to_others_ok, to_one_ok}
+use Rattle.us_ballot_model.specs.declared.message.BallotMessage.TheVariants.{Accepted}
+use Rattle.us_ballot_model.specs.Ballots.{sites}
+use Rattle.us_agreement.proofs.Same.{IsDecided, merged, some_below, Same, same_refl, same_trans, same_less, get_drop, get_front, get_back, merged-front, merged-back}
+use Rattle.us_agreement.proofs.History.{Ack, initial, IsStarted, blocked_more}
+use Rattle.us_agreement.proofs.Growth.{LogOk}
+use Rattle.us_agreement.proofs.Logs.{length-merged, log_ok_same, compare_chosen, chosen_log, learn_log, learn_ack, learn_leader, merged_log}
+use Rattle.us_agreement.proofs.Facts.{Past, whole, LogIs, Chosen, AckIs, StateOk, AcceptOk, LearnOk, IsLeading, RoleOk, SiteOk, HistoryOk, Owes, owes_nothing, starts_kept, choices_kept, vow_later, acks_later}
+use Rattle.us_agreement.proofs.Steps.{Step, to_one_ok}
 
 -- a list that begins with l
 pub get_append : {E : Type 0} (c l : List E) (k : ℕ) → length c ≤ k → slice_get (c ++ l) k ≡ slice_get l (k - length c)

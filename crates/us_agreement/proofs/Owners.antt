@@ -1,5 +1,5 @@
 -- Who owns a ballot, and numbers that pass.
-use Rattle.std.proofs.Common.{◌≡◌, ◌⊎◌, inl, inr, ⊎_elim, ℕ, zero, suc, ◌+◌, ◌-◌, ◌*◌, ◌/◌, ◌%◌, ◌<◌, ◌≤◌, Bool, true, false, refl, sym, ap, ◌∙◌, subst, arith, true≢false}
+use Rattle.std.proofs.Common.{◌≡◌, ⊎_elim, ℕ, zero, suc, ◌+◌, ◌-◌, ◌*◌, ◌/◌, ◌%◌, ◌<◌, ◌≤◌, Bool, true, false, refl, sym, ap, ◌∙◌, arith}
 use Rattle.std.specs.Prelude.{if◌then◌else◌}
 use Rattle.std.proofs.Math.Nat.{add-mod-mod, mod-eq_of_lt, mod-add-mod, add-mod_right, div-add-mod}
 use Rattle.std.proofs.lemmas.Nat.{mod-mul-add, mod_below}
@@ -53,12 +53,12 @@ mod_apart : (d x k : ℕ) → 0 < k → k < d → x % d ≡ (x + k) % d → ⊥
 mod_apart d x k some less e = ⊎_elim
     (λ (l : x % d + k < d). let small : (x % d + k) % d ≡ x % d + k = mod-eq_of_lt l in let a = e ∙ sym (mod-add-mod x d k) ∙ small in omega arith)
     (λ (l : d ≤ x % d + k).
-      let low : x % d < d = mod_below x d (omega arith) in
-      let rest = x % d + k - d in
-      let shift : x % d + k ≡ x % d + k - d + d = omega arith in
-      let below : x % d + k - d < d = omega arith in
-      let small : (x % d + k - d) % d ≡ x % d + k - d = mod-eq_of_lt below in
-      let a = e ∙ sym (mod-add-mod x d k) ∙ ap (λ y. y % d) shift ∙ add-mod_right (x % d + k - d) d ∙ small in omega arith)
+    let low : x % d < d = mod_below x d (omega arith) in
+    let rest = x % d + k - d in
+    let shift : x % d + k ≡ x % d + k - d + d = omega arith in
+    let below : x % d + k - d < d = omega arith in
+    let small : (x % d + k - d) % d ≡ x % d + k - d = mod-eq_of_lt below in
+    let a = e ∙ sym (mod-add-mod x d k) ∙ ap (λ y. y % d) shift ∙ add-mod_right (x % d + k - d) d ∙ small in omega arith)
     (cases_lt (x % d + k) d)
 
 pub next_least : (f s b c : ℕ) → 1 ≤ s → s ≤ 2 * f + 1 → b < c → c < next_ballot f s b → owner f c ≡ s → ⊥

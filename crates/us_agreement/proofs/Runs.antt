@@ -1,26 +1,22 @@
 -- Every run keeps the facts, so chosen lists agree, and what is chosen is held by many.
-use Rattle.std.proofs.Common.{◌≡◌, ◌⊎◌, inl, inr, ⊎_elim, ℕ, zero, suc, ◌+◌, ◌-◌, ◌*◌, ◌%◌, ◌<◌, ◌≤◌, List, [], ◌∷◌, ◌++◌, length, length-append, take, drop, Bool, true, false, Option, Some, None, refl, sym, ap, ◌∙◌, subst, arith, true≢false}
+use Rattle.std.proofs.Common.{◌≡◌, ◌⊎◌, inl, inr, ⊎_elim, ℕ, zero, suc, ◌+◌, ◌-◌, ◌*◌, ◌<◌, List, [], ◌∷◌, ◌++◌, length, Bool, true, false, Option, Some, None, refl, sym, ap, ◌∙◌, subst, arith, true≢false}
 use Rattle.std.specs.Prelude.{◌==◌, ◌&&◌, if◌then◌else◌, nat_le, replicate, slice_get}
 use Rattle.std.specs.Bool.{Decides}
 use Rattle.std.proofs.Math.Nat.{zero-mod}
-use Rattle.std.proofs.lemmas.Bool.{cases_eq, cases_lt, cond_both, eqb-true, leb-true, and_parts}
+use Rattle.std.proofs.lemmas.Bool.{cond_both, eqb-true, leb-true, and_parts}
 use Rattle.us_kind.specs.Words.{In}
 use Rattle.us_kind.proofs.ListLemmas.{in_got}
-use Rattle.us_ballot_model.specs.declared.log.Role.{Role}
-use Rattle.us_ballot_model.specs.declared.log.Role.TheVariants.{Follows, Collects, Leads}
-use Rattle.us_ballot_model.specs.declared.log.BallotLog.{BallotLog}
-use Rattle.us_ballot_model.specs.declared.message.BallotMessage.{BallotMessage}
-use Rattle.us_ballot_model.specs.Ballots.{sites, sites_from, owner, first_acks, leads, opening}
+use Rattle.us_ballot_model.specs.declared.log.Role.TheVariants.{Follows, Leads}
+use Rattle.us_ballot_model.specs.Ballots.{sites, sites_from, owner, first_acks, opening}
 use Rattle.us_ballot_model.specs.Rules.{Stepped, lead, may_append, append, tick, take_message}
-use Rattle.us_ballot_model.specs.Worlds.{Sent, World, Happening, Leads as LeadsNow, Appends, Ticks, Crashes, Comes, put, sent_by, acts, stepped, steps, appends, comes, happens, run, opening_world}
+use Rattle.us_ballot_model.specs.Worlds.{Sent, World, Happening, Leads as LeadsNow, Appends, Ticks, Crashes, Comes, acts, stepped, steps, comes, happens, run, opening_world}
 use Rattle.us_agreement.specs.Words.{count}
-use Rattle.us_agreement.specs.Laws.{IsFront, IsHeldByMany}
-use Rattle.us_agreement.proofs.Same.{IsDecided, merged, Same, same_refl, same_sym, same_trans, same_less}
-use Rattle.us_agreement.proofs.History.{Acknowledgement, Ack, Start, initial, Choice, IsStarted, Blocked, blocked_more, IsChosen, ChoiceOk, not_blocked, choice_above, starts_in}
-use Rattle.us_agreement.proofs.Growth.{LogOk, is_own, is_blocked, is_learned}
-use Rattle.us_agreement.proofs.Logs.{le_or_lt, length-merged, compare_chosen}
-use Rattle.us_agreement.proofs.Counting.{site_in, majority_of}
-use Rattle.us_agreement.proofs.Facts.{Past, whole, LeadOk, RoleOk, SiteOk, HistoryOk, Facts, Holds, SentOk}
+use Rattle.us_agreement.proofs.Same.{IsDecided, same_refl}
+use Rattle.us_agreement.proofs.History.{Start, Choice, IsStarted, ChoiceOk}
+use Rattle.us_agreement.proofs.Growth.{is_own}
+use Rattle.us_agreement.proofs.Logs.{length-merged}
+use Rattle.us_agreement.proofs.Counting.{site_in}
+use Rattle.us_agreement.proofs.Facts.{Past, RoleOk, SiteOk, HistoryOk, Holds}
 use Rattle.us_agreement.proofs.Kept.{Does, lead_does, append_does, tick_does, take_does}
 
 abbrev pub WorldOk : {E : Type 0} → ℕ → World E → Type 0

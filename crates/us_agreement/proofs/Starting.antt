@@ -1,27 +1,24 @@
 -- What a start keeps: a ballot begins with the best of f + 1 promises.
-use Rattle.std.proofs.Common.{◌≡◌, ◌⊎◌, inl, inr, ⊎_elim, ℕ, zero, suc, ◌+◌, ◌-◌, ◌*◌, ◌<◌, ◌≤◌, List, [], ◌∷◌, ◌++◌, length, length-append, length-drop, take, drop, Bool, true, false, Option, Some, None, refl, sym, ap, ◌∙◌, subst, arith, true≢false}
+use Rattle.std.proofs.Common.{◌≡◌, ◌⊎◌, inl, inr, ⊎_elim, ℕ, zero, suc, ◌+◌, ◌-◌, ◌*◌, ◌<◌, ◌≤◌, List, [], ◌∷◌, ◌++◌, length, length-append, drop, Bool, true, false, Some, None, refl, sym, ap, ◌∙◌, subst, arith, true≢false}
 use Rattle.std.specs.Prelude.{◌==◌, ◌&&◌, ◌||◌, if◌then◌else◌, nat_lt, replicate, slice_get}
 use Rattle.std.proofs.lemmas.List.{drop-drop}
 use Rattle.std.proofs.Math.Seq.{drop-append_seam}
-use Rattle.std.proofs.lemmas.Bool.{cases_eq, cases_lt, eqb-true, ltb-true, leb-true, and_parts, or_cases}
+use Rattle.std.proofs.lemmas.Bool.{cases_eq, cases_lt, eqb-true, ltb-true, and_parts, or_cases}
 use Rattle.std.proofs.lemmas.Bool.Decides.{nat_tests}
 use Rattle.us_kind.specs.Words.{In}
 use Rattle.us_ballot_model.specs.declared.log.Vow.{Vow}
-use Rattle.us_ballot_model.specs.declared.log.Role.{Role}
-use Rattle.us_ballot_model.specs.declared.log.Role.TheVariants.{Follows, Collects, Leads}
 use Rattle.us_ballot_model.specs.declared.log.BallotLog.{BallotLog}
-use Rattle.us_ballot_model.specs.declared.message.BallotMessage.{BallotMessage}
 use Rattle.us_ballot_model.specs.declared.message.BallotMessage.TheVariants.{NewState}
-use Rattle.us_ballot_model.specs.Ballots.{sites, owner, to_others, count, vowed, reach, is_better, best, no_acks}
+use Rattle.us_ballot_model.specs.Ballots.{sites, owner, to_others, count, vowed, reach, is_better, best}
 use Rattle.us_ballot_model.specs.Rules.{led}
-use Rattle.us_ballot_model.specs.Worlds.{Sent, put}
+use Rattle.us_ballot_model.specs.Worlds.{put}
 use Rattle.us_agreement.specs.Words.{count as count_of}
-use Rattle.us_agreement.proofs.Same.{IsDecided, merged, Same, same_refl, same_sym}
-use Rattle.us_agreement.proofs.History.{Acknowledgement, Ack, Start, initial, Choice, IsStarted, IsChosen, StartOk, ChoiceOk}
-use Rattle.us_agreement.proofs.Growth.{LogOk, is_own, LogFacts, AckFacts, Grows, started_later, chosen_later, log_later, ack_later, best_later}
-use Rattle.us_agreement.proofs.Logs.{Claim, length-merged, best_ok}
+use Rattle.us_agreement.proofs.Same.{IsDecided, merged, Same, same_refl}
+use Rattle.us_agreement.proofs.History.{Ack, Start, IsStarted, StartOk}
+use Rattle.us_agreement.proofs.Growth.{is_own, Grows, started_later, chosen_later, best_later}
+use Rattle.us_agreement.proofs.Logs.{Claim, best_ok}
 use Rattle.us_agreement.proofs.Counting.{vows_count, vowed_in, majority_of}
-use Rattle.us_agreement.proofs.Facts.{Past, whole, LogIs, Chosen, AckIs, VowOk, SentOk, IsLeading, CollectOk, LeadOk, RoleOk, SiteOk, HistoryOk, Owes, starts_kept, choices_kept, put_same, put_other, at_each}
+use Rattle.us_agreement.proofs.Facts.{Past, LogIs, VowOk, IsLeading, CollectOk, SiteOk, HistoryOk, Owes, starts_kept, choices_kept, put_same, put_other}
 use Rattle.us_agreement.proofs.Steps.{Step, to_others_ok}
 use Rattle.us_agreement.proofs.Growing.{put_grows}
 

@@ -1,21 +1,17 @@
 -- What the parts of a rule keep.
-use Rattle.std.proofs.Common.{◌≡◌, ◌⊎◌, inl, inr, ⊎_elim, ℕ, ◌+◌, ◌-◌, ◌<◌, ◌≤◌, List, [], ◌∷◌, ◌++◌, length, length-append, map, drop, Bool, true, Option, Some, None, refl, sym, ap, ◌∙◌, subst, arith, append_assoc}
-use Rattle.std.specs.Prelude.{◌==◌, not, filter, slice_get}
+use Rattle.std.proofs.Common.{◌≡◌, inl, inr, ℕ, ◌≤◌, List, [], ◌∷◌, ◌++◌, length-append, map, true, refl, sym, ap, ◌∙◌, subst, arith, append_assoc}
+use Rattle.std.specs.Prelude.{◌==◌, not}
 use Rattle.std.proofs.Math.Seq.{drop-append_seam}
-use Rattle.std.proofs.lemmas.Bool.{cases_eq, eq-eqb}
+use Rattle.std.proofs.lemmas.Bool.{eq-eqb}
 use Rattle.us_kind.specs.Words.{In}
-use Rattle.us_kind.proofs.ListLemmas.{in_filter, in_either, in_front, in_back}
-use Rattle.us_ballot_model.specs.declared.log.Vow.{Vow}
+use Rattle.us_kind.proofs.ListLemmas.{in_filter, in_front}
 use Rattle.us_ballot_model.specs.declared.log.Role.{Role}
-use Rattle.us_ballot_model.specs.declared.log.Role.TheVariants.{Follows, Collects, Leads}
 use Rattle.us_ballot_model.specs.declared.log.BallotLog.{BallotLog}
 use Rattle.us_ballot_model.specs.declared.message.BallotMessage.{BallotMessage}
-use Rattle.us_ballot_model.specs.declared.message.BallotMessage.TheVariants.{NewBallot, Promise, NewState, Accept, Accepted, CatchUp, Learn}
-use Rattle.us_ballot_model.specs.Ballots.{sites, owner, others, to_others, count, own_vow}
+use Rattle.us_ballot_model.specs.Ballots.{sites, others, to_others, count}
 use Rattle.us_ballot_model.specs.Worlds.{Sent, put, sent_by}
-use Rattle.us_agreement.proofs.History.{Acknowledgement, Ack, Start, Choice, IsStarted}
-use Rattle.us_agreement.proofs.Growth.{LogFacts, AckFacts}
-use Rattle.us_agreement.proofs.Facts.{Past, whole, LogIs, Chosen, AckIs, VowOk, MessageOk, SentOk, RoleOk, SiteOk, HistoryOk, Facts, Holds, Owes, put_same, put_other, at_each, put_put, net_step, owes_nothing}
+use Rattle.us_agreement.proofs.History.{Ack}
+use Rattle.us_agreement.proofs.Facts.{Past, whole, VowOk, MessageOk, SentOk, RoleOk, SiteOk, HistoryOk, Holds, Owes, put_same, put_other, at_each, put_put, net_step, owes_nothing}
 
 pub in_mapped : {X Y : Type 0} (f : X → Y) (y : Y) (xs : List X) → In y (map f xs) → (x : X) × In x xs × (f x ≡ y)
 in_mapped f y [] i = absurd i

@@ -1,7 +1,6 @@
 -- What holds of every run of the small world of 2f + 1 ballot logs.
 use Rattle.std.specs.Prelude.{◌≡◌, ℕ, ◌+◌, ◌*◌, ◌<◌, ◌≤◌, List, [], ◌∷◌, ◌++◌, length, Bool, true, if◌then◌else◌, ◌⊎◌, Some, slice_get}
 use Rattle.us_kind.specs.Words.{In}
-use Rattle.us_ballot_model.specs.declared.log.BallotLog.{BallotLog}
 use Rattle.us_ballot_model.specs.Ballots.{sites, owner, next_ballot, WINDOW}
 use Rattle.us_ballot_model.specs.Rules.{trimmed}
 use Rattle.us_ballot_model.specs.Worlds.{World, Happening, run, opening_world}
@@ -44,7 +43,8 @@ ChosenEntriesWereAppended {E} eq = (f : ℕ) (hs : List (Happening E)) (s : ℕ)
 
 -- once chosen, an entry is held in its slot by f + 1 sites, whatever happens next
 abbrev pub ChosenEntriesAreHeld : {E : Type 0} → (E → E → Bool) → Type 0
-ChosenEntriesAreHeld {E} eq = (f : ℕ) (hs more : List (Happening E)) (s slot : ℕ) (e : E) → slice_get (chosen_at (after eq f hs) s) slot ≡ Some e → IsHeldByMany f (after eq f (hs ++ more)) slot e
+ChosenEntriesAreHeld {E} eq = (f : ℕ) (hs more : List (Happening E)) (s slot : ℕ) (e : E) →
+    slice_get (chosen_at (after eq f hs) s) slot ≡ Some e → IsHeldByMany f (after eq f (hs ++ more)) slot e
 
 -- a tail has at most 8 entries
 abbrev pub TailsAreShort : {E : Type 0} → (E → E → Bool) → Type 0

@@ -4,7 +4,8 @@
 //! message ever sent comes to its site, any number of times, in any order. Entries are of any type whose `==` tells them apart.
 #![tactic(auto)]
 
-ghost use Rattle.us_agreement.specs.Laws.{ChosenListsAgree, ChosenListsGrow, ChosenEntriesWereAppended, ChosenEntriesAreHeld, NextBallotsAreLeast, TailsAreShort, TailsLoseHeads};
+ghost use Rattle.us_agreement.specs.Laws.{ChosenListsAgree, ChosenListsGrow, ChosenEntriesWereAppended, ChosenEntriesAreHeld};
+ghost use Rattle.us_agreement.specs.Laws.{NextBallotsAreLeast, TailsAreShort, TailsLoseHeads};
 
 use us_kind::Slot;
 

@@ -1,19 +1,17 @@
 -- Messages of an old ballot are dropped, and when entries come back.
-use Rattle.std.proofs.Common.{◌≡◌, ◌≤◌, ℕ, ◌<◌, Bool, true, false, Option, Some, None, Result, Ok, Err, length, refl, sym, ap, ◌∙◌, subst, arith, true≢false}
+use Rattle.std.proofs.Common.{◌≡◌, ◌≤◌, ℕ, ◌<◌, Bool, true, false, Result, Ok, Err, length, refl, sym, ap, ◌∙◌, arith, true≢false}
 use Rattle.std.specs.Prelude.{IfOk, ◌&&◌, ◌==◌, ◌↔◌, if◌then◌else◌, nat_lt, nat_le}
 use Rattle.std.proofs.lemmas.Bool.{cond_both, ltb-true}
 use Rattle.std.proofs.lemmas.Bool.Decides.{nat_tests}
-use Rattle.us_ballot_model.specs.declared.log.Vow.{Vow}
 use Rattle.us_ballot_model.specs.declared.log.Role.{Role}
 use Rattle.us_ballot_model.specs.declared.log.Role.TheVariants.{Follows, Collects, Leads}
 use Rattle.us_ballot_model.specs.declared.log.BallotLog.{BallotLog}
 use Rattle.us_ballot_model.specs.declared.message.BallotMessage.{BallotMessage}
 use Rattle.us_ballot_model.specs.declared.message.BallotMessage.TheVariants.{NewBallot, Promise, NewState, Accept, Accepted, CatchUp, Learn}
 use Rattle.us_ballot_model.specs.declared.message.BallotOut.{BallotOut}
-use Rattle.us_ballot_model.specs.declared.message.Appended.{Appended}
 use Rattle.us_ballot_model.specs.declared.message.Appended.TheVariants.{In, NotLeader, Full}
-use Rattle.us_ballot_model.specs.Ballots.{WINDOW, ballot_in, is_below, leads, owner, follows, held, vowed}
-use Rattle.us_ballot_model.specs.Rules.{Stepped, dropped, may_follow, new_ballot, may_promise, may_record, promise, new_state, may_accept, accept, may_hear, accepted, catch_up, learn, take_message, append, append_answer}
+use Rattle.us_ballot_model.specs.Ballots.{WINDOW, ballot_in, is_below, leads, owner, follows}
+use Rattle.us_ballot_model.specs.Rules.{Stepped, dropped, may_follow, new_ballot, may_promise, promise, new_state, may_accept, accept, may_hear, accepted, catch_up, take_message, append, append_answer}
 
 pub catch_up_log : {E : Type 0} (c : BallotLog E) (from n : ℕ) → (catch_up c from n).log ≡ c
 unfolding catch_up

@@ -1,5 +1,5 @@
 -- A step that gives nothing adds nothing.
-use Rattle.std.proofs.Common.{◌≡◌, ℕ, List, [], ◌++◌, append-nil}
+use Rattle.std.proofs.Common.{◌≡◌, ℕ, List, ◌++◌, append-nil}
 use Rattle.us_ballot_model.specs.declared.log.BallotLog.{BallotLog}
 use Rattle.us_ballot_model.specs.declared.message.BallotOut.{BallotOut}
 use Rattle.us_ballot_model.specs.Rules.{dropped, sending}

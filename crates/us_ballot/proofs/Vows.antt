@@ -1,5 +1,5 @@
 -- Promises have tails of at most 8 entries.
-use Rattle.std.proofs.Common.{◌≡◌, ℕ, ◌≤◌, List, [], ◌∷◌, ◌++◌, length, Bool, true, false, Option, Some, None}
+use Rattle.std.proofs.Common.{◌≤◌, List, [], ◌∷◌, ◌++◌, length, Bool, true, false, Option, Some, None}
 use Rattle.std.specs.Prelude.{if◌then◌else◌, nat_lt}
 use Rattle.us_ballot_model.specs.declared.log.Vow.{Vow}
 use Rattle.us_ballot_model.specs.declared.log.Role.{Role}

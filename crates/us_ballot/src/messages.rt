@@ -39,7 +39,10 @@ pub fn is_message<E: Slot>(message: &BallotMessage<E>) -> bool
             slot: _,
             entry: _,
         } => true,
-        BallotMessage::Accepted { ballot: _, length: _ } => true,
+        BallotMessage::Accepted {
+            ballot: _,
+            length: _,
+        } => true,
         BallotMessage::CatchUp { length: _ } => true,
         BallotMessage::Learn { first: _, entries } => is_short(entries),
     }

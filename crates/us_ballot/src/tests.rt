@@ -117,11 +117,13 @@ fn after(alloc: Global, steps: &[Step]) -> Result<Net, Fail> {
 /// Whether these are the numbers of the site's chosen entries.
 fn has_chosen(net: &Net, site: u8, numbers: &[u64]) -> Result<bool, Fail> {
     let chosen = net.sites.get(place(site)).ok_or("no such site")?.chosen();
-    Ok(chosen.len() == numbers.len()
-        && chosen
-            .iter()
-            .zip(numbers)
-            .all(|(mark, number)| mark.number == *number))
+    Ok(
+        chosen.len() == numbers.len()
+            && chosen
+                .iter()
+                .zip(numbers)
+                .all(|(mark, number)| mark.number == *number),
+    )
 }
 
 #[test]
@@ -133,8 +135,18 @@ fn a_leader_takes_eight_entries_and_another_none(rt: HostRuntime) -> Result<(), 
         let _ = one.append(Mark { number })?;
     }
     assert_eq!(rt; one.tail().len(), 8);
-    assert!(rt; matches!(one.append(Mark { number: 8 })?, Appended::Full(Mark { number: 8 })));
-    assert!(rt; matches!(two.append(Mark { number: 9 })?, Appended::NotLeader(Mark { number: 9 })));
+    assert!(rt;
+        matches!(
+            one.append(Mark { number: 8 })?,
+            Appended::Full(Mark { number: 8 })
+        )
+    );
+    assert!(rt;
+        matches!(
+            two.append(Mark { number: 9 })?,
+            Appended::NotLeader(Mark { number: 9 })
+        )
+    );
     assert_eq!(rt; one.chosen().len(), 0);
     assert_eq!(rt; one.ballot(), 1);
     assert_eq!(rt; two.owner(), 1);
@@ -144,7 +156,15 @@ fn a_leader_takes_eight_entries_and_another_none(rt: HostRuntime) -> Result<(), 
 /// Site 2 takes over what site 1 appended, though it had heard nothing of it; the second promise comes late.
 #[test]
 fn a_new_leader_keeps_what_others_hold(rt: HostRuntime) -> Result<(), Fail> {
-    let net = after(rt.alloc(), &[Step::Append(1, 7), Step::Append(1, 8), Step::Lead(2), Step::All])?;
+    let net = after(
+        rt.alloc(),
+        &[
+            Step::Append(1, 7),
+            Step::Append(1, 8),
+            Step::Lead(2),
+            Step::All,
+        ],
+    )?;
     assert!(rt; has_chosen(&net, 1, &[7, 8])?);
     assert!(rt; has_chosen(&net, 2, &[7, 8])?);
     assert!(rt; has_chosen(&net, 3, &[7, 8])?);

@@ -1,8 +1,8 @@
-use Rattle.std.proofs.Common.{◌≡◌, ◌++◌, ◌+◌, ◌*◌, true, false, sym, ap, ◌∙◌}
+use Rattle.std.proofs.Common.{◌≡◌, ◌+◌, ◌*◌, true, false, sym, ap, ◌∙◌}
 use Rattle.std.specs.Prelude.{not}
 use Rattle.us_ballot_model.specs.declared.message.BallotMessage.TheVariants.{NewBallot}
 use Rattle.us_ballot_model.specs.Ballots.{vowed}
-use Rattle.us_ballot.proofs.Repeating.{asked, ask_own, ask_none, ask_next}
+use Rattle.us_ballot.proofs.Repeating.{ask_own, ask_none, ask_next}
 use Rattle.us_ballot.proofs.repeat.ask_missing.Goals as goal
 use Rattle.us_ballot.proofs.repeat.ask_missing.Goals.{then-j-log+then-not-vowed+in_ok-send, else-j-log, else-j-log-via-then-j-log+else-not-vowed, else-j-log-via-else-j-log}
 

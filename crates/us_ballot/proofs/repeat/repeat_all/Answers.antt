@@ -1,7 +1,7 @@
-use Rattle.std.proofs.Common.{◌≡◌, ◌++◌, ◌+◌, ◌*◌}
+use Rattle.std.proofs.Common.{◌+◌, ◌*◌}
 use Rattle.us_ballot_model.specs.Ballots.{ack_of}
 use Rattle.us_ballot_model.specs.Rules.{repeated}
-use Rattle.us_ballot.proofs.Repeating.{all_of, all_own, all_next}
+use Rattle.us_ballot.proofs.Repeating.{all_own, all_next}
 use Rattle.us_ballot.proofs.repeat.repeat_all.Goals as goal
 use Rattle.us_ballot.proofs.repeat.repeat_all.Goals.{then-j-log+in_ok-repeat_for, else-j-log}
 

@@ -1,6 +1,5 @@
-use Rattle.std.proofs.Common.{◌≡◌, ◌++◌, [], ◌∷◌, ◌∙◌, ap, sym, ◌+◌, ◌*◌, rules, arith}
-use Rattle.std.proofs.lemmas.Grind.{common_steps}
-use Rattle.us_ballot.proofs.Sending.{rest_of, skip_own, send_next}
+use Rattle.std.proofs.Common.{◌+◌, ◌*◌}
+use Rattle.us_ballot.proofs.Sending.{skip_own, send_next}
 use Rattle.us_ballot.proofs.sends.send_to_others.Goals as goal
 use Rattle.us_ballot.proofs.sends.send_to_others.Goals.{then-j-log+in_ok-copy_message+in_ok-send, else-j-log}
 

@@ -1,4 +1,4 @@
-use Rattle.std.proofs.Common.{◌≡◌, ◌++◌, ◌≤◌, ◌+◌, ◌*◌}
+use Rattle.std.proofs.Common.{◌≡◌, ◌++◌, ◌+◌, ◌*◌}
 use Rattle.us_ballot.proofs.Sending.{rest_of}
 use Rattle.us_ballot.proofs.sends.send_to_others.Given as goal
 

@@ -1,7 +1,6 @@
 use Rattle.std.proofs.Common.{◌≡◌, true, false, length, subst, sym}
 use Rattle.std.specs.Prelude.{IfOk, ◌↔◌}
 use Rattle.us_ballot_model.specs.declared.log.BallotLog.{BallotLog}
-use Rattle.us_ballot_model.specs.declared.message.Appended.{Appended}
 use Rattle.us_ballot_model.specs.declared.message.Appended.TheVariants.{NotLeader, Full}
 use Rattle.us_ballot_model.specs.Ballots.{WINDOW, leads}
 use Rattle.us_ballot_model.specs.Rules.{append_answer}
