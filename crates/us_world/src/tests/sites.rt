@@ -1,7 +1,9 @@
 use std::alloc::Global;
 use std::test::Fail;
+use us_base::Shape;
+use us_conflict::Conflicts;
 use us_kind::Memory;
-use us_model::{Event, Outputs};
+use us_model::{Event, Outputs, Settings};
 use us_site::Site;
 use us_value::{Catalog, Kind};
 
@@ -10,8 +12,12 @@ const SESSIONS: u64 = 4096;
 
 /// A site whose space 1 holds registers.
 fn site_of_registers(alloc: Global) -> Result<Site, Memory> {
-    let catalog = Catalog::new(alloc, &[(1, Kind::Register)])?;
-    Ok(Site::new(alloc, 1, catalog))
+    let settings = Settings {
+        shape: Shape { f: 0, parts: 1 },
+        catalog: Catalog::new(alloc, &[(1, Kind::Register)])?,
+        conflicts: Conflicts::new(alloc, &[])?,
+    };
+    Site::new(alloc, &settings, 1)
 }
 
 /// A step of a site. One that has stopped takes none.
