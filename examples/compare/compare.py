@@ -151,7 +151,7 @@ class Comparison:
 def options():
     parser = argparse.ArgumentParser(description=__doc__, formatter_class=argparse.RawDescriptionHelpFormatter)
     parser.add_argument("program", metavar="PROGRAM", help="the program that is compared, as crates/unistore/out/unistore")
-    parser.add_argument("numbers", metavar="NUMBER", nargs="*", type=float, help="SEED COUNT [SECONDS], in place of the options")
+    parser.add_argument("numbers", metavar="NUMBER", nargs="*", help="SEED COUNT [SECONDS], in place of the options")
     parser.add_argument("--seed", metavar="N", type=int, help="the seed of the inputs (1)")
     parser.add_argument("--count", metavar="N", type=int, help="how many inputs there are (1000)")
     parser.add_argument("--seconds", metavar="S", type=float, help="the time after which the comparison stops, and fails (3600)")
@@ -173,7 +173,8 @@ def options():
         chosen.lengths = tuple(map(int, chosen.lengths.split(",")))
     except ValueError:
         parser.error("--lengths is numbers with commas between")
-    if chosen.count < 1 or chosen.seconds <= 0 or min(chosen.lengths) < 1 or not 0 <= chosen.bounds <= 1:
+    whole = chosen.count >= 1 and min(chosen.lengths) >= 1
+    if not (whole and 0 < chosen.seconds < float("inf") and 0 <= chosen.bounds <= 1):
         parser.error("counts, times and lengths are above 0, a share is from 0 to 1")
     return chosen
 
@@ -182,14 +183,15 @@ def read_numbers(parser, chosen):
     """Takes SEED COUNT [SECONDS] over, and what isn't told otherwise."""
     if len(chosen.numbers) not in (0, 2, 3):
         parser.error("give PROGRAM alone, PROGRAM SEED COUNT or PROGRAM SEED COUNT SECONDS")
-    names = ("seed", "count", "seconds")
-    for name, number in zip(names, chosen.numbers):
+    kinds = {"seed": int, "count": int, "seconds": float}
+    for (name, kind), number in zip(kinds.items(), chosen.numbers):
         if getattr(chosen, name) is not None:
             parser.error(f"give --{name} or its number, not both")
-        if name != "seconds" and number != int(number):
-            parser.error(f"the {name} is a whole number")
-        setattr(chosen, name, number if name == "seconds" else int(number))
-    for name, usual in zip(names, (1, 1000, 3600.0)):
+        try:
+            setattr(chosen, name, kind(number))
+        except ValueError:
+            parser.error(f"the {name} is a number, not {number!r}")
+    for name, usual in zip(kinds, (1, 1000, 3600.0)):
         if getattr(chosen, name) is None:
             setattr(chosen, name, usual)
 
