@@ -1,20 +1,28 @@
 #!/usr/bin/env python3
-"""A plain twin of the ballot log's rules (docs/PROTOCOL.md, "The ballot log"), run at random.
+"""A plain twin of the ballot log's rules, run at random. It is written from docs/PROTOCOL.md, "The ballot log", sharing no code.
 
-    ballots.py FIRST COUNT [WRONG]
+    python3 examples/ballots/ballots.py FIRST COUNT [WRONG]
+    python3 examples/ballots/ballots.py 1 2000
+    python3 examples/ballots/ballots.py 1 100 longest
 
 Runs COUNT worlds with seeds from FIRST on, of 1, 3 or 5 sites and at most 400 steps each, where any message ever sent may come
 at any time, any number of times. After each step it checks that of two chosen lists one is the front of the other, that chosen
 lists only grew, that each chosen entry was appended and stands in its slot at f + 1 sites, and that no tail is longer than 8.
-WRONG names a wrong rule: longest, forgets, twice and few are found within some hundred worlds; keeps (a learner that keeps what
-stands behind a differing head) breaks the rule and, as far as was seen, none of these facts. Exits 0 where nothing was found.
+
+WRONG names a wrong rule. The checks find, with seeds 1 to 100: `longest` (a new leader takes the longest log whatever its ballot),
+`forgets` (a promise isn't remembered), `twice` (an acknowledgement counts twice), `few` (f sites are enough). They find nothing of
+`keeps` (a learner whose tail doesn't begin with the learnt entry keeps the rest of it): nothing that they look at breaks by it.
+
+The exit status is 0 where nothing was found, 1 where something was, with its seed and step, and 2 where the arguments are faulty.
 """
+import argparse
 import random
 import sys
 
 WINDOW = 8
 STEPS = 400
-WRONG = ""
+WRONGS = ("longest", "forgets", "twice", "few", "keeps")
+WRONG = None
 
 
 class Site:
@@ -222,8 +230,14 @@ def run(seed):
 
 def main():
     global WRONG
-    first, count = int(sys.argv[1]), int(sys.argv[2])
-    WRONG = sys.argv[3] if len(sys.argv) > 3 else ""
+    parser = argparse.ArgumentParser(description=__doc__, formatter_class=argparse.RawDescriptionHelpFormatter)
+    parser.add_argument("first", metavar="FIRST", type=int, help="the first seed")
+    parser.add_argument("count", metavar="COUNT", type=int, help="how many worlds there are, at least 1")
+    parser.add_argument("wrong", metavar="WRONG", nargs="?", choices=WRONGS, help="the name of a wrong rule")
+    arguments = parser.parse_args()
+    if arguments.count < 1:
+        parser.error("COUNT is at least 1")
+    first, count, WRONG = arguments.first, arguments.count, arguments.wrong
     chosen = 0
     for seed in range(first, first + count):
         found, step, most = run(seed)

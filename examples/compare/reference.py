@@ -1,11 +1,15 @@
 #!/usr/bin/env python3
 """A plain implementation of `unistore replay` for one site with one partition and all kinds of items.
 
-    python3 reference.py replay < schedule
+    python3 examples/compare/reference.py replay < examples/cart/schedule
 
-It was written from the rules by someone who hadn't seen the store's code or definitions, and keeps everything in plain
-lists. `run(words, data)` gives what is written, the exit status, and counts of what was met on the way. Of short runs it also
-tests that pasts are those by steps and that each answer is its operation's value over its past.
+It is written from docs/PROTOCOL.md, sharing no code with the store, and keeps everything in plain lists. `run(words, text)` gives
+what is written, the exit status, and counts of what was met on the way. Of runs of at most 150 transactions it also tests that
+pasts are those by steps and that each answer is its operation's value over its past.
+
+Of docs/PROTOCOL.md it leaves out: the refusal of an open at a site with 4,096 open sessions, since the limit of 512 sessions of a
+run comes first; replies and packets as bytes, since a report shows neither; the rules of several partitions and sites and the
+ballot log; an input or output that fails, and want of memory. What TOML is, it takes from Python's `tomllib`.
 """
 import sys
 import tomllib

@@ -1,12 +1,14 @@
+#!/usr/bin/env python3
 """Writes a schedule of one session for `unistore replay`: N transactions of four operations over 40 items.
 
-    python3 schedule.py N > schedule
+    python3 examples/speed/schedule.py N > schedule
+    time crates/unistore/out/unistore replay short < schedule
 
 Each transaction adds to a counter, adds to a set, writes a register and reads a register, is committed causally, and is
-followed by a flush.
+followed by a flush. A run takes at most 20,000 transactions.
 """
 
-import sys
+import argparse
 
 # the kind, number and items of each space
 SPACES = (("counter", 1, 10), ("set", 2, 10), ("register", 3, 20))
@@ -42,11 +44,17 @@ def transaction(number: int) -> str:
 
 
 def main() -> None:
+    parser = argparse.ArgumentParser(description=__doc__, formatter_class=argparse.RawDescriptionHelpFormatter)
+    parser.add_argument("count", metavar="N", type=int, help="how many transactions there are, at least 1")
+    count = parser.parse_args().count
+    if count < 1:
+        parser.error("N is at least 1")
     for kind, number, _ in SPACES:
         print(f'[[space]]\nnumber = {number}\nkind = "{kind}"')
     print("---\nopen 1 1")
-    for number in range(int(sys.argv[1])):
+    for number in range(count):
         print(f"bytes 1 1 1 {transaction(number)}\nflush 1 1")
 
 
-main()
+if __name__ == "__main__":
+    main()
