@@ -23,8 +23,12 @@ front_of xs ys le same = record { rest = drop (length xs) ys; is = reads_front x
 module _ {E : Type 0} (dec : IsDecided E) (f : ℕ) (p : Past E) (hist : HistoryOk f p) where
   fronts : (xs ys : List E) → Chosen p xs → Chosen p ys → IsFront xs ys ⊎ IsFront ys xs
   fronts xs ys a b = ⊎_elim
-      (λ (l : length xs ≤ length ys). inl (front_of xs ys l (compare_chosen dec (sites f) p.starts p.logs p.choices p.told hist.starts hist.choices hist.started xs ys a b (length xs) (omega arith) l)))
-      (λ (l : length ys < length xs). inr (front_of ys xs (omega arith) (compare_chosen dec (sites f) p.starts p.logs p.choices p.told hist.starts hist.choices hist.started ys xs b a (length ys) (omega arith) (omega arith))))
+      (λ (l : length xs ≤ length ys). inl (front_of xs ys l
+          (compare_chosen dec (sites f) p.starts p.logs p.choices p.told hist.starts hist.choices hist.started xs ys a b (length xs) (omega arith)
+          l)))
+      (λ (l : length ys < length xs). inr (front_of ys xs (omega arith)
+          (compare_chosen dec (sites f) p.starts p.logs p.choices p.told hist.starts hist.choices hist.started ys xs b a (length ys) (omega arith)
+          (omega arith))))
       (le_or_lt (length xs) (length ys))
 
   module _ (d : Choice E) (here : In d p.choices) where
@@ -32,17 +36,23 @@ module _ {E : Type 0} (dec : IsDecided E) (f : ℕ) (p : Past E) (hist : History
     ok = hist.choices d here
 
     never : Blocked p.starts p.logs d.ballot (length d.log) → ⊥
-    never bl = not_blocked dec (sites f) p.logs p.choices p.told hist.choices p.starts hist.starts d.ballot (length d.log) d.quorum (record { majority = ok.majority; acks = ok.acks }) bl
+    never bl =
+        not_blocked dec (sites f) p.logs p.choices p.told hist.choices p.starts hist.starts d.ballot (length d.log) d.quorum
+        (record { majority = ok.majority; acks = ok.acks }) bl
 
     -- each later ballot begins with it
     begins_with : (h : Start E) → In h p.starts → d.ballot < h.ballot → (length d.log ≤ length (initial h)) × Same (length d.log) (initial h) d.log
     begins_with h i above = ⊎_elim
-        (λ (t : Same (length d.log) (initial h) (p.logs d.ballot)). (same_length (length d.log) (initial h) (p.logs d.ballot) ok.within t, same_trans t (same_sym ok.same)))
-        (λ (t : Same (length d.log) (initial h) (p.logs d.ballot) → ⊥). absurd (never (record { place = length d.log; by = h; le = omega arith; within = ok.within; here = i; above = above; differ = t })))
+        (λ (t : Same (length d.log) (initial h) (p.logs d.ballot)).
+            (same_length (length d.log) (initial h) (p.logs d.ballot) ok.within t, same_trans t (same_sym ok.same)))
+        (λ (t : Same (length d.log) (initial h) (p.logs d.ballot) → ⊥). absurd
+            (never (record { place = length d.log; by = h; le = omega arith; within = ok.within; here = i; above = above; differ = t })))
         (decide_same dec (length d.log) (initial h) (p.logs d.ballot))
 
     above' : (a : ℕ) → IsStarted p.starts a → d.ballot ≤ a → (length d.log ≤ length (p.logs a)) × Same (length d.log) d.log (p.logs a)
-    above' a st le = choice_above dec (sites f) p.logs p.choices p.told p.starts hist.starts (not_blocked dec (sites f) p.logs p.choices p.told hist.choices p.starts hist.starts) d ok a st le
+    above' a st le =
+        choice_above dec (sites f) p.logs p.choices p.told p.starts hist.starts
+        (not_blocked dec (sites f) p.logs p.choices p.told hist.choices p.starts hist.starts) d ok a st le
 
     -- so none of those is blocked as far
     free : (a m : ℕ) → IsStarted p.starts a → d.ballot ≤ a → m ≤ length d.log → Blocked p.starts p.logs a m → ⊥
@@ -72,7 +82,8 @@ module _ {E : Type 0} (dec : IsDecided E) (f : ℕ) (p : Past E) (hist : History
               (λ bl. never (blocked_more (length d.log) (omega arith) bl))
               ((g.acks d.ballot told.0 told.2).2 e))
               (λ (n : d.ballot ≡ c.accepted → ⊥). ⊎_elim
-              (λ (w : length (initial g.log.start) ≤ length (whole c)). let e = g.log.is in let u = up in let b = (begins_with g.log.start g.log.here (omega arith)).0 in omega arith)
+              (λ (w : length (initial g.log.start) ≤ length (whole c)). let e = g.log.is in let u = up
+                  in let b = (begins_with g.log.start g.log.here (omega arith)).0 in omega arith)
               (λ bl. free c.accepted (length (whole c)) st up (omega arith) bl)
               g.log.long)
               (cases_eq d.ballot c.accepted)
@@ -83,21 +94,27 @@ module _ {E : Type 0} (dec : IsDecided E) (f : ℕ) (p : Past E) (hist : History
           on : LogOk p.starts p.logs p.choices c.accepted (whole c) (length d.log) → Same (length d.log) (whole c) d.log
           on (is_own w t) = same_trans t (same_sym (above' c.accepted st up).1)
           on (is_blocked bl) = absurd (free c.accepted (length d.log) st up (omega arith) bl)
-          on (is_learned e j lt w t) = same_trans t (compare dec (sites f) p.starts p.logs p.choices p.told hist.starts hist.choices hist.started e d j here (length d.log) w (omega arith))
+          on (is_learned e j lt w t) =
+              same_trans t (compare dec (sites f) p.starts p.logs p.choices p.told hist.starts hist.choices hist.started e d j here (length d.log) w
+              (omega arith))
 
-  pub held_slot : (at : ℕ → BallotLog E) → ((s : ℕ) → SiteOk f p s (at s)) → (s slot : ℕ) (e : E) → slice_get (at s).chosen slot ≡ Some e → (group : ℕ → Bool) × (f < count group (sites f)) × ((x : ℕ) → group x ≡ true → slice_get (whole (at x)) slot ≡ Some e)
+  pub held_slot : (at : ℕ → BallotLog E) → ((s : ℕ) → SiteOk f p s (at s)) → (s slot : ℕ) (e : E) → slice_get (at s).chosen slot ≡ Some e
+      → (group : ℕ → Bool) × (f < count group (sites f)) × ((x : ℕ) → group x ≡ true → slice_get (whole (at x)) slot ≡ Some e)
   held_slot at sites_ok s slot e got =
       let l = (sites_ok s).chosen in
       let d = l.choice in
       let inside = some_below (at s).chosen slot e got in
       let many = (hist.choices d l.here).majority in
       let size = length_sites 1 (2 * f + 1) in
-      (d.quorum, omega arith, λ x q. let w = l.long in (same d l.here x (at x) (sites_ok x) q (omega arith)).at slot (omega arith) ∙ sym (l.same.at slot inside) ∙ got)
+      (d.quorum, omega arith, λ x q. let w = l.long in (same d l.here x (at x) (sites_ok x) q (omega arith)).at slot (omega arith) ∙ sym
+          (l.same.at slot inside) ∙ got)
 
-pub lists_agree : {E : Type 0} (dec : IsDecided E) (f : ℕ) (w : World E) → WorldOk f w → (s t : ℕ) → IsFront (chosen_at w s) (chosen_at w t) ⊎ IsFront (chosen_at w t) (chosen_at w s)
+pub lists_agree : {E : Type 0} (dec : IsDecided E) (f : ℕ) (w : World E) → WorldOk f w → (s t : ℕ)
+    → IsFront (chosen_at w s) (chosen_at w t) ⊎ IsFront (chosen_at w t) (chosen_at w s)
 lists_agree dec f w h s t = fronts dec f h.past h.facts.history (chosen_at w s) (chosen_at w t) (h.facts.site s).chosen (h.facts.site t).chosen
 
-pub held_by_many : {E : Type 0} (dec : IsDecided E) (f : ℕ) (w : World E) → WorldOk f w → (s slot : ℕ) (e : E) → slice_get (chosen_at w s) slot ≡ Some e → IsHeldByMany f w slot e
+pub held_by_many : {E : Type 0} (dec : IsDecided E) (f : ℕ) (w : World E) → WorldOk f w → (s slot : ℕ) (e : E)
+    → slice_get (chosen_at w s) slot ≡ Some e → IsHeldByMany f w slot e
 held_by_many dec f w h s slot e got =
     let r = held_slot dec f h.past h.facts.history w.at h.facts.site s slot e got in
     record { group = r.0; many = r.1; holds = r.2 }

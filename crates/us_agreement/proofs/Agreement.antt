@@ -3,7 +3,8 @@ use Rattle.std.proofs.Common.{◌≡◌, ℕ, List, ◌++◌, Bool, Some, sym, a
 use Rattle.std.specs.Prelude.{slice_get}
 use Rattle.std.specs.Bool.{Decides}
 use Rattle.us_ballot_model.specs.Worlds.{World, Happening, opening_world}
-use Rattle.us_agreement.specs.Laws.{IsFront, after, chosen_at, ChosenListsAgree, ChosenListsGrow, ChosenEntriesWereAppended, ChosenEntriesAreHeld, TailsAreShort}
+use Rattle.us_agreement.specs.Laws.{IsFront, after, chosen_at, ChosenListsAgree, ChosenListsGrow, ChosenEntriesWereAppended, ChosenEntriesAreHeld}
+use Rattle.us_agreement.specs.Laws.{TailsAreShort}
 use Rattle.us_agreement.proofs.Same.{get_front, some_below}
 use Rattle.us_agreement.proofs.Runs.{dec, every_run_ok}
 use Rattle.us_agreement.proofs.Agree.{lists_agree, held_by_many}
@@ -33,5 +34,6 @@ module _ {E : Type 0} (eq : E → E → Bool) where
     held f hs more s slot e got =
         let front = grow f hs more s in
         let still : slice_get (chosen_at (after eq f (hs ++ more)) s) slot ≡ Some e =
-        ap (λ l. slice_get l slot) front.is ∙ get_front (chosen_at (after eq f hs) s) front.rest slot (some_below (chosen_at (after eq f hs) s) slot e got) ∙ got in
+        ap (λ l. slice_get l slot) front.is ∙ get_front (chosen_at (after eq f hs) s) front.rest slot
+            (some_below (chosen_at (after eq f hs) s) slot e got) ∙ got in
         held_by_many (dec eq decides) f (after eq f (hs ++ more)) (every_run_ok eq decides f (hs ++ more)) s slot e still

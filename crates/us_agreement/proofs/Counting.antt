@@ -1,5 +1,6 @@
 -- How many sites pass.
-use Rattle.std.proofs.Common.{◌≡◌, inl, inr, ⊎_elim, ℕ, zero, suc, ◌+◌, ◌-◌, ◌*◌, ◌<◌, ◌≤◌, List, [], ◌∷◌, length, filter, Bool, true, false, Option, refl, sym, ap, subst, arith, true≢false}
+use Rattle.std.proofs.Common.{◌≡◌, inl, inr, ⊎_elim, ℕ, zero, suc, ◌+◌, ◌-◌, ◌*◌, ◌<◌, ◌≤◌, List, [], ◌∷◌, length, filter, Bool, true, false, Option}
+use Rattle.std.proofs.Common.{refl, sym, ap, subst, arith, true≢false}
 use Rattle.std.specs.Prelude.{◌==◌, ◌||◌, ◌&&◌, nat_lt, slice_get}
 use Rattle.std.proofs.lemmas.Bool.{cases_eq, eq-eqb, eqb-true, or_cases, and_parts, lt-ltb}
 use Rattle.us_kind.specs.Words.{In}
@@ -66,7 +67,9 @@ pub vows_count : {E : Type 0} (vs : List (Vow E)) (xs : List ℕ) → ((v : Vow 
 vows_count [] xs h a = omega arith
 vows_count (v ∷ vs) xs h a =
     let k = vows_count vs xs (λ u i. h u (inr i)) a.1 in
-    let l = count_more (vowed vs) (vowed (v ∷ vs)) xs v.site (λ z e. or_right (v.site == z) (vowed vs z) e) (h v (inl refl)) (or_left (v.site == v.site) (vowed vs v.site) (eq-eqb v.site v.site refl)) (vowed_not vs v.site a.0) in
+    let l =
+        count_more (vowed vs) (vowed (v ∷ vs)) xs v.site (λ z e. or_right (v.site == z) (vowed vs z) e) (h v (inl refl))
+        (or_left (v.site == v.site) (vowed vs v.site) (eq-eqb v.site v.site refl)) (vowed_not vs v.site a.0) in
     omega arith
 
 pub vowed_in : {E : Type 0} (vs : List (Vow E)) (z : ℕ) → vowed vs z ≡ true → (v : Vow E) × In v vs × (v.site ≡ z)
@@ -83,10 +86,13 @@ none_reaches n (a ∷ as') h = on (at_least n a) refl (none_reaches n as' (λ j.
     on false e k = rw e k
 
 -- the places that reach n are of sites that pass
-placed : (n : ℕ) (q : ℕ → Bool) (acks : List (Option ℕ)) (i k : ℕ) → ((j : ℕ) → at_least n (flat (slice_get acks j)) ≡ true → (j < k) × (q (i + j) ≡ true)) → backers acks n ≤ count q (sites_from i k)
+placed : (n : ℕ) (q : ℕ → Bool) (acks : List (Option ℕ)) (i k : ℕ)
+    → ((j : ℕ) → at_least n (flat (slice_get acks j)) ≡ true → (j < k) × (q (i + j) ≡ true)) → backers acks n ≤ count q (sites_from i k)
 placed n q [] i k h = omega arith
 placed n q (a ∷ as') i zero h = let e = none_reaches n (a ∷ as') (λ j t. let x = (h j t).0 in omega arith) in omega arith
-placed n q (a ∷ as') i (suc k) h = on (at_least n a) refl (placed n q as' (i + 1) k (λ j t. let x = h (suc j) t in let y = x.0 in (omega arith, subst (λ z. q z ≡ true) (next j) x.1)))
+placed n q (a ∷ as') i (suc k) h =
+    on (at_least n a) refl (placed n q as' (i + 1) k (λ j t. let x = h (suc j) t in let y = x.0
+    in (omega arith, subst (λ z. q z ≡ true) (next j) x.1)))
   where
     next : (j : ℕ) → i + suc j ≡ i + 1 + j
     next j = omega arith
@@ -106,10 +112,16 @@ acked n acks z = nat_lt 0 z && at_least n (ack_of acks z)
 abbrev pub has : ℕ → ℕ → List (Option ℕ) → ℕ → Bool
 has s n acks z = (z == s) || acked n acks z
 
-pub backers_count : (f s n : ℕ) (acks : List (Option ℕ)) → In s (sites f) → ((j : ℕ) → at_least n (flat (slice_get acks j)) ≡ true → In (j + 1) (sites f) × (j + 1 ≡ s → ⊥)) → f ≤ backers acks n → f < count (has s n acks) (sites f)
+pub backers_count : (f s n : ℕ) (acks : List (Option ℕ)) → In s (sites f)
+    → ((j : ℕ) → at_least n (flat (slice_get acks j)) ≡ true → In (j + 1) (sites f) × (j + 1 ≡ s → ⊥)) → f ≤ backers acks n
+    → f < count (has s n acks) (sites f)
 backers_count f s n acks here h le =
-    let others' = placed n (acked n acks) acks 1 (2 * f + 1) (λ j t. let x = site_within 1 (2 * f + 1) (j + 1) (h j t).0 in let y = x.1 in (omega arith, shifted j t)) in
-    let more = count_more (acked n acks) (has s n acks) (sites f) s (λ z e. or_right (z == s) (acked n acks z) e) here (or_left (s == s) (acked n acks s) (eq-eqb s s refl)) (own (acked n acks s) refl) in
+    let others' =
+        placed n (acked n acks) acks 1 (2 * f + 1) (λ j t. let x = site_within 1 (2 * f + 1) (j + 1) (h j t).0 in let y = x.1
+        in (omega arith, shifted j t)) in
+    let more =
+        count_more (acked n acks) (has s n acks) (sites f) s (λ z e. or_right (z == s) (acked n acks z) e) here
+        (or_left (s == s) (acked n acks s) (eq-eqb s s refl)) (own (acked n acks s) refl) in
     omega arith
   where
     shifted : (j : ℕ) → at_least n (flat (slice_get acks j)) ≡ true → acked n acks (1 + j) ≡ true

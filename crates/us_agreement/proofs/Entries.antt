@@ -1,5 +1,6 @@
 -- Where entries come from, how long tails are, and that chosen lists grow.
-use Rattle.std.proofs.Common.{◌≡◌, inl, inr, ⊎_elim, ℕ, zero, suc, ◌+◌, ◌-◌, ◌≤◌, List, [], ◌∷◌, ◌++◌, length, length-append, length-drop, map, take, drop, Bool, true, Option, Some, None, refl, sym, ap, ◌∙◌, subst, arith, append_assoc, append-nil}
+use Rattle.std.proofs.Common.{◌≡◌, inl, inr, ⊎_elim, ℕ, zero, suc, ◌+◌, ◌-◌, ◌≤◌, List, [], ◌∷◌, ◌++◌, length, length-append, length-drop, map, take}
+use Rattle.std.proofs.Common.{drop, Bool, true, Option, Some, None, refl, sym, ap, ◌∙◌, subst, arith, append_assoc, append-nil}
 use Rattle.std.specs.Prelude.{◌==◌, ◌&&◌, if◌then◌else◌, nat_lt, nat_le, max, slice_get}
 use Rattle.std.specs.List.{starts_with}
 use Rattle.std.proofs.lemmas.Bool.{cond_both, ltb-true, and_parts}
@@ -12,8 +13,13 @@ use Rattle.us_ballot_model.specs.declared.log.BallotLog.{BallotLog}
 use Rattle.us_ballot_model.specs.declared.message.BallotMessage.{BallotMessage}
 use Rattle.us_ballot_model.specs.declared.message.BallotMessage.TheVariants.{NewBallot, Promise, NewState, Accept, Accepted, CatchUp, Learn}
 use Rattle.us_ballot_model.specs.Ballots.{LAST, WINDOW, next_ballot, others, to_others, count, held, best, ack_of, first_acks}
-use Rattle.us_ballot_model.specs.Rules.{Stepped, sending, dropped, before, ready_as, advanced, advance, led, begin, start_by, best_of, due, start_with, start, collecting, lead, may_follow, following, new_ballot, may_promise, with_vow, recorded, promise, restated, acknowledging, state_in, new_state, may_accept, joined, accept_in, tell_accepted, accept, with_ack, heard, may_hear, accepted, catch_up, trimmed, learnt, known, may_learn, learn_from, learn, take_message, missing, accepts, repeated, repeats, tick, may_append, put_in, append}
-use Rattle.us_ballot_model.specs.Worlds.{Sent, World, Happening, Leads as LeadsNow, Appends, Ticks, Crashes, Comes, put, sent_by, acts, stepped, steps, comes, happens, run, opening_world}
+use Rattle.us_ballot_model.specs.Rules.{Stepped, sending, dropped, before, ready_as, advanced, advance, led, begin, start_by, best_of, due}
+use Rattle.us_ballot_model.specs.Rules.{start_with, start, collecting, lead, may_follow, following, new_ballot, may_promise, with_vow, recorded}
+use Rattle.us_ballot_model.specs.Rules.{promise, restated, acknowledging, state_in, new_state, may_accept, joined, accept_in, tell_accepted, accept}
+use Rattle.us_ballot_model.specs.Rules.{with_ack, heard, may_hear, accepted, catch_up, trimmed, learnt, known, may_learn, learn_from, learn}
+use Rattle.us_ballot_model.specs.Rules.{take_message, missing, accepts, repeated, repeats, tick, may_append, put_in, append}
+use Rattle.us_ballot_model.specs.Worlds.{Sent, World, Happening, Leads as LeadsNow, Appends, Ticks, Crashes, Comes, put, sent_by, acts, stepped}
+use Rattle.us_ballot_model.specs.Worlds.{steps, comes, happens, run, opening_world}
 use Rattle.us_agreement.specs.Laws.{IsFront, chosen_at}
 use Rattle.us_agreement.proofs.Facts.{at_each}
 use Rattle.us_agreement.proofs.Steps.{in_mapped}
@@ -83,16 +89,20 @@ module _ {E : Type 0} (app : List E) where
   rests : (c : BallotLog E) → Yields app c (dropped c)
   rests c h = record { log = h; sends = λ m i. absurd i; grows = front_self c.chosen }
 
-  says : (c : BallotLog E) (ms : List (ℕ × BallotMessage E)) → (LogKnown app c → (m : ℕ × BallotMessage E) → In m ms → MessageKnown app m.1) → Yields app c (sending c ms)
+  says : (c : BallotLog E) (ms : List (ℕ × BallotMessage E)) → (LogKnown app c → (m : ℕ × BallotMessage E) → In m ms → MessageKnown app m.1)
+      → Yields app c (sending c ms)
   says c ms ok h = record { log = h; sends = ok h; grows = front_self c.chosen }
 
   says_one : (c : BallotLog E) (to : ℕ) (m : BallotMessage E) → (LogKnown app c → MessageKnown app m) → Yields app c (sending c ((to, m) ∷ []))
-  says_one c to m ok = says c ((to, m) ∷ []) (λ h x i. ⊎_elim (λ q. let P : ℕ × BallotMessage E → Type 0 = λ y. MessageKnown app y.1 in subst P q (ok h)) (λ n. absurd n) i)
+  says_one c to m ok =
+      says c ((to, m) ∷ []) (λ h x i. ⊎_elim (λ q. let P : ℕ × BallotMessage E → Type 0 = λ y. MessageKnown app y.1 in subst P q (ok h))
+      (λ n. absurd n) i)
 
   to_all : (d : BallotLog E) (m : BallotMessage E) → MessageKnown app m → (x : ℕ × BallotMessage E) → In x (to_others d m) → MessageKnown app x.1
   to_all d m ok x i = let r = in_mapped (λ j. (j, m)) x (others d) i in let P : ℕ × BallotMessage E → Type 0 = λ y. MessageKnown app y.1 in subst P r.2 ok
 
-  and_more : (c c1 c2 : BallotLog E) (ms1 ms2 : List (ℕ × BallotMessage E)) → Leaves app c.chosen c1 ms1 → (LogKnown app c1 → Leaves app c1.chosen c2 ms2) → Leaves app c.chosen c2 (ms1 ++ ms2)
+  and_more : (c c1 c2 : BallotLog E) (ms1 ms2 : List (ℕ × BallotMessage E)) → Leaves app c.chosen c1 ms1
+      → (LogKnown app c1 → Leaves app c1.chosen c2 ms2) → Leaves app c.chosen c2 (ms1 ++ ms2)
   and_more c c1 c2 ms1 ms2 a b =
       let r = b a.log in
       record { log = r.log; sends = λ m i. ⊎_elim (λ j. a.sends m j) (λ j. r.sends m j) (in_either m ms1 ms2 i); grows = front_trans a.grows r.grows }
@@ -104,7 +114,9 @@ module _ {E : Type 0} (app : List E) where
       let k = ready_as c c.role in
       let page : (e : E) → In e (take k c.tail) → In e app = λ e i. h.tail.known e (in_take k e c.tail i) in
       record {
-        log = record { chosen = λ e i. ⊎_elim (λ j. h.chosen e j) (λ j. page e j) (in_either e c.chosen (take k c.tail) i); tail = drop_tail k c.tail h.tail; role = h.role };
+        log =
+            record { chosen = λ e i. ⊎_elim (λ j. h.chosen e j) (λ j. page e j) (in_either e c.chosen (take k c.tail) i);
+            tail = drop_tail k c.tail h.tail; role = h.role };
         sends = to_all c (Learn (count c + 1) (take k c.tail)) page;
         grows = front_more c.chosen (take k c.tail);
       })
@@ -128,7 +140,9 @@ module _ {E : Type 0} (app : List E) where
   start_in : (c : BallotLog E) (r : Role E) → RoleKnown app r → Yields app c (start_with c (due c r))
   start_in c Follows ok = rests c
   start_in c (Leads acks) ok = rests c
-  start_in c (Collects vows) ok = cond_both (nat_lt c.f (length vows)) (best_of vows) None (λ (o : Option (Vow E)). Yields app c (start_with c o)) (λ t. start_of c vows ok) (λ t. rests c)
+  start_in c (Collects vows) ok =
+      cond_both (nat_lt c.f (length vows)) (best_of vows) None (λ (o : Option (Vow E)). Yields app c (start_with c o)) (λ t. start_of c vows ok)
+      (λ t. rests c)
 
   start_grows : (c : BallotLog E) → Yields app c (start c)
   unfolding start
@@ -136,7 +150,10 @@ module _ {E : Type 0} (app : List E) where
 
   pub lead_grows : (c : BallotLog E) → Yields app c (lead c)
   unfolding lead
-  lead_grows c = cond_both (nat_lt LAST (next_ballot c.f c.site c.ballot)) (dropped c) (before (to_others c (NewBallot (next_ballot c.f c.site c.ballot))) [] (start (collecting c (next_ballot c.f c.site c.ballot)))) (λ (r : Stepped E). Yields app c r)
+  lead_grows c =
+      cond_both (nat_lt LAST (next_ballot c.f c.site c.ballot)) (dropped c)
+      (before (to_others c (NewBallot (next_ballot c.f c.site c.ballot))) [] (start (collecting c (next_ballot c.f c.site c.ballot))))
+      (λ (r : Stepped E). Yields app c r)
       (λ t. rests c)
       (λ t h.
       let b = next_ballot c.f c.site c.ballot in
@@ -150,7 +167,9 @@ module _ {E : Type 0} (app : List E) where
 
   new_ballot_grows : (c : BallotLog E) (from b : ℕ) → Yields app c (new_ballot c from b)
   unfolding new_ballot
-  new_ballot_grows c from b = cond_both (may_follow c from b) (sending (following c b) ((from, Promise b c.accepted (count c) c.tail) ∷ [])) (dropped c) (λ (r : Stepped E). Yields app c r)
+  new_ballot_grows c from b =
+      cond_both (may_follow c from b) (sending (following c b) ((from, Promise b c.accepted (count c) c.tail) ∷ [])) (dropped c)
+      (λ (r : Stepped E). Yields app c r)
       (λ t h. record {
         log = record { chosen = h.chosen; tail = h.tail; role = tt };
         sends = λ m i. ⊎_elim (λ q. let P : ℕ × BallotMessage E → Type 0 = λ y. MessageKnown app y.1 in subst P q h.tail) (λ n. absurd n) i;
@@ -177,10 +196,14 @@ module _ {E : Type 0} (app : List E) where
       (λ t. h)
 
   restated_chosen : (c : BallotLog E) (b base : ℕ) (tail : List E) → IsFront c.chosen (restated c b base tail).chosen
-  restated_chosen c b base tail = cond_both (nat_lt c.accepted b) (record c { tail = drop (count c - base) tail; accepted = b }) c (λ (d : BallotLog E). IsFront c.chosen d.chosen) (λ t. front_self c.chosen) (λ t. front_self c.chosen)
+  restated_chosen c b base tail =
+      cond_both (nat_lt c.accepted b) (record c { tail = drop (count c - base) tail; accepted = b }) c
+      (λ (d : BallotLog E). IsFront c.chosen d.chosen) (λ t. front_self c.chosen) (λ t. front_self c.chosen)
 
   state_grows : (c : BallotLog E) (from b base : ℕ) (tail : List E) → IsTail app tail → Yields app c (state_in c from b base tail)
-  state_grows c from b base tail ok = cond_both (nat_lt (count c) base) (sending c ((from, CatchUp (count c)) ∷ [])) (acknowledging (restated c b base tail) from b) (λ (r : Stepped E). Yields app c r)
+  state_grows c from b base tail ok =
+      cond_both (nat_lt (count c) base) (sending c ((from, CatchUp (count c)) ∷ [])) (acknowledging (restated c b base tail) from b)
+      (λ (r : Stepped E). Yields app c r)
       (λ t. says_one c from (CatchUp (count c)) (λ h. tt))
       (λ t h. record {
         log = restated_known c b base tail ok h;
@@ -190,26 +213,33 @@ module _ {E : Type 0} (app : List E) where
 
   new_state_grows : (c : BallotLog E) (from b base : ℕ) (tail : List E) → IsTail app tail → Yields app c (new_state c from b base tail)
   unfolding new_state
-  new_state_grows c from b base tail ok = cond_both (may_follow c from b) (state_in (following c b) from b base tail) (dropped c) (λ (r : Stepped E). Yields app c r)
+  new_state_grows c from b base tail ok =
+      cond_both (may_follow c from b) (state_in (following c b) from b base tail) (dropped c) (λ (r : Stepped E). Yields app c r)
       (λ t h. state_grows (following c b) from b base tail ok (record { chosen = h.chosen; tail = h.tail; role = tt }))
       (λ t. rests c)
 
   join_known : (c : BallotLog E) (e : E) → In e app → nat_lt (length c.tail) WINDOW ≡ true → LogKnown app c → LogKnown app (joined c e)
   join_known c e i t h = record {
     chosen = h.chosen;
-    tail = record { short = (let x = ltb-true (length c.tail) WINDOW t in omega (arith, length-append c.tail (e ∷ []))); known = in_push (λ y. In y app) c.tail e h.tail.known i };
+    tail =
+        record { short = (let x = ltb-true (length c.tail) WINDOW t in omega (arith, length-append c.tail (e ∷ [])));
+        known = in_push (λ y. In y app) c.tail e h.tail.known i };
     role = h.role;
   }
 
   tell_grows : (c : BallotLog E) (from b slot : ℕ) → Yields app c (tell_accepted c from b slot)
-  tell_grows c from b slot = cond_both (nat_le slot (held c)) (acknowledging c from b) (dropped c) (λ (r : Stepped E). Yields app c r) (λ t. says_one c from (Accepted b (held c)) (λ h. tt)) (λ t. rests c)
+  tell_grows c from b slot =
+      cond_both (nat_le slot (held c)) (acknowledging c from b) (dropped c) (λ (r : Stepped E). Yields app c r)
+      (λ t. says_one c from (Accepted b (held c)) (λ h. tt)) (λ t. rests c)
 
   accept_grows : (c : BallotLog E) (from b slot : ℕ) (e : E) → In e app → Yields app c (accept c from b slot e)
   unfolding accept
-  accept_grows c from b slot e i = cond_both (may_accept c from b) (tell_accepted (accept_in c slot e) from b slot) (dropped c) (λ (r : Stepped E). Yields app c r)
+  accept_grows c from b slot e i =
+      cond_both (may_accept c from b) (tell_accepted (accept_in c slot e) from b slot) (dropped c) (λ (r : Stepped E). Yields app c r)
       (λ t. cond_both ((slot == held c + 1) && nat_lt (length c.tail) WINDOW) (joined c e) c (λ (d : BallotLog E). Yields app c (tell_accepted d from b slot))
       (λ u h. and_more c (joined c e) (tell_accepted (joined c e) from b slot).log [] (tell_accepted (joined c e) from b slot).out.sends
-      (record { log = join_known c e i (and_parts (slot == held c + 1) (nat_lt (length c.tail) WINDOW) u).1 h; sends = λ m j. absurd j; grows = front_self c.chosen })
+      (record { log = join_known c e i (and_parts (slot == held c + 1) (nat_lt (length c.tail) WINDOW) u).1 h; sends = λ m j. absurd j;
+          grows = front_self c.chosen })
       (tell_grows (joined c e) from b slot))
       (λ u. tell_grows c from b slot))
       (λ t. rests c)
@@ -227,7 +257,9 @@ module _ {E : Type 0} (app : List E) where
 
   catch_up_grows : (c : BallotLog E) (from n : ℕ) → Yields app c (catch_up c from n)
   unfolding catch_up
-  catch_up_grows c from n = cond_both (nat_lt n (count c)) (sending c ((from, Learn (n + 1) (take WINDOW (drop n c.chosen))) ∷ [])) (dropped c) (λ (r : Stepped E). Yields app c r)
+  catch_up_grows c from n =
+      cond_both (nat_lt n (count c)) (sending c ((from, Learn (n + 1) (take WINDOW (drop n c.chosen))) ∷ [])) (dropped c)
+      (λ (r : Stepped E). Yields app c r)
       (λ t. says_one c from (Learn (n + 1) (take WINDOW (drop n c.chosen))) (λ h e i. h.chosen e (in_drop n e c.chosen (in_take WINDOW e (drop n c.chosen) i))))
       (λ t. rests c)
 
@@ -241,7 +273,9 @@ module _ {E : Type 0} (app : List E) where
       let more = drop (known c first) es in
       and_more c (learnt eq c more) (start (learnt eq c more)).log [] (start (learnt eq c more)).out.sends
       (record {
-        log = record { chosen = λ e i. ⊎_elim (λ j. h.chosen e j) (λ j. ok e (in_drop (known c first) e es j)) (in_either e c.chosen more i); tail = trimmed_tail eq c.tail more h.tail; role = h.role };
+        log =
+            record { chosen = λ e i. ⊎_elim (λ j. h.chosen e j) (λ j. ok e (in_drop (known c first) e es j)) (in_either e c.chosen more i);
+            tail = trimmed_tail eq c.tail more h.tail; role = h.role };
         sends = λ m i. absurd i;
         grows = front_more c.chosen more;
       })
@@ -265,25 +299,33 @@ module _ {E : Type 0} (app : List E) where
 
   repeated_known : (c : BallotLog E) → LogKnown app c → (j : ℕ) (o : Option ℕ) (x : ℕ × BallotMessage E) → In x (repeated c j o) → MessageKnown app x.1
   repeated_known c h j None x i = ⊎_elim (λ q. let P : ℕ × BallotMessage E → Type 0 = λ y. MessageKnown app y.1 in subst P q h.tail) (λ n. absurd n) i
-  repeated_known c h j (Some n) x i = accepts_known j c.ballot (max n (count c) + 1) (drop (max n (count c) - count c) c.tail) (λ e k. h.tail.known e (in_drop (max n (count c) - count c) e c.tail k)) x i
+  repeated_known c h j (Some n) x i =
+      accepts_known j c.ballot (max n (count c) + 1) (drop (max n (count c) - count c) c.tail)
+      (λ e k. h.tail.known e (in_drop (max n (count c) - count c) e c.tail k)) x i
 
   repeats_known : (c : BallotLog E) → LogKnown app c → (r : Role E) (x : ℕ × BallotMessage E) → In x (repeats c r) → MessageKnown app x.1
   repeats_known c h Follows x i = absurd i
-  repeats_known c h (Collects vows) x i = cond_both (nat_lt c.f (length vows)) [] (map (λ j. (j, NewBallot c.ballot)) (missing c vows)) (λ l. In x l → MessageKnown app x.1)
+  repeats_known c h (Collects vows) x i =
+      cond_both (nat_lt c.f (length vows)) [] (map (λ j. (j, NewBallot c.ballot)) (missing c vows)) (λ l. In x l → MessageKnown app x.1)
       (λ t n. absurd n)
-      (λ t k. let r = in_mapped (λ j. (j, NewBallot c.ballot)) x (missing c vows) k in let P : ℕ × BallotMessage E → Type 0 = λ y. MessageKnown app y.1 in subst P r.2 tt)
+      (λ t k. let r = in_mapped (λ j. (j, NewBallot c.ballot)) x (missing c vows) k in let P : ℕ × BallotMessage E → Type 0 = λ y. MessageKnown app
+          y.1 in subst P r.2 tt)
       i
   repeats_known c h (Leads acks) x i = let r = in_gathered (λ j. repeated c j (ack_of acks j)) x (others c) i in repeated_known c h r.0 (ack_of acks r.0) x r.2
 
   pub tick_grows : (c : BallotLog E) → Yields app c (tick c)
   unfolding tick
-  tick_grows c = says c (to_others c (CatchUp (count c)) ++ repeats c c.role) (λ h x i. ⊎_elim (λ a. to_all c (CatchUp (count c)) tt x a) (λ a. repeats_known c h c.role x a) (in_either x (to_others c (CatchUp (count c))) (repeats c c.role) i))
+  tick_grows c =
+      says c (to_others c (CatchUp (count c)) ++ repeats c c.role)
+      (λ h x i. ⊎_elim (λ a. to_all c (CatchUp (count c)) tt x a) (λ a. repeats_known c h c.role x a)
+      (in_either x (to_others c (CatchUp (count c))) (repeats c c.role) i))
 
   pub append_grows : (c : BallotLog E) (e : E) → In e app → Yields app c (append c e)
   unfolding append
   append_grows c e i = cond_both (may_append c) (put_in c e) (dropped c) (λ (r : Stepped E). Yields app c r)
       (λ t h. and_more c (joined c e) (advance (joined c e)).log (to_others c (Accept c.ballot (held c + 1) e)) (advance (joined c e)).out.sends
-      (record { log = join_known c e i (and_parts _ (nat_lt (length c.tail) WINDOW) t).1 h; sends = to_all c (Accept c.ballot (held c + 1) e) i; grows = front_self c.chosen })
+      (record { log = join_known c e i (and_parts _ (nat_lt (length c.tail) WINDOW) t).1 h; sends = to_all c (Accept c.ballot (held c + 1) e) i;
+          grows = front_self c.chosen })
       (advance_grows (joined c e)))
       (λ t. rests c)
 
@@ -326,10 +368,13 @@ module _ {E : Type 0} where
   stays : (w : World E) → Known w → Goes w w
   stays w h = record { known = h; longer = λ s. front_self (chosen_at w s) }
 
-  stepped_known : (app : List E) (at : ℕ → BallotLog E) (sent : List (Sent E)) (s : ℕ) (r : Stepped E) → WorldKnown app at sent → Leaves app (at s).chosen r.log r.out.sends → WorldKnown app (put at s r.log) (sent ++ sent_by s r.out.sends)
+  stepped_known : (app : List E) (at : ℕ → BallotLog E) (sent : List (Sent E)) (s : ℕ) (r : Stepped E) → WorldKnown app at sent
+      → Leaves app (at s).chosen r.log r.out.sends → WorldKnown app (put at s r.log) (sent ++ sent_by s r.out.sends)
   stepped_known app at sent s r h l = record {
     logs = at_each (λ j c. LogKnown app c) at s r.log (λ j n. h.logs j) l.log;
-    sent = λ x i. ⊎_elim (λ j. h.sent x j) (λ j. let m = in_mapped (λ m. record { from = s; to = m.0; message = m.1 }) x r.out.sends j in subst (λ (y : Sent E). MessageKnown app y.message) m.2 (l.sends m.0 m.1)) (in_either x sent (sent_by s r.out.sends) i);
+    sent =
+        λ x i. ⊎_elim (λ j. h.sent x j) (λ j. let m = in_mapped (λ m. record { from = s; to = m.0; message = m.1 }) x r.out.sends j in subst
+        (λ (y : Sent E). MessageKnown app y.message) m.2 (l.sends m.0 m.1)) (in_either x sent (sent_by s r.out.sends) i);
   }
 
   stepped_longer : (at : ℕ → BallotLog E) (s : ℕ) (c : BallotLog E) → IsFront (at s).chosen c.chosen → (j : ℕ) → IsFront (at j).chosen (put at s c j).chosen
@@ -345,10 +390,12 @@ module _ {E : Type 0} where
   happens_goes eq f w (LeadsNow s) h = steps_goes f w s (lead (w.at s)) h (lead_grows w.appended (w.at s))
   happens_goes eq f w (Ticks s) h = steps_goes f w s (tick (w.at s)) h (tick_grows w.appended (w.at s))
   happens_goes eq f w (Crashes s) h = record { known = h; longer = λ s. front_self (chosen_at w s) }
-  happens_goes eq f w (Appends s e) h = cond_both (acts f w s && may_append (w.at s)) (record (stepped w s (append (w.at s) e)) { appended = w.appended ++ e ∷ [] }) w (Goes w)
+  happens_goes eq f w (Appends s e) h =
+      cond_both (acts f w s && may_append (w.at s)) (record (stepped w s (append (w.at s) e)) { appended = w.appended ++ e ∷ [] }) w (Goes w)
       (λ t.
       let app = w.appended ++ e ∷ [] in
-      let k : WorldKnown app w.at w.sent = record { logs = λ j. log_more w.appended e (w.at j) (h.logs j); sent = λ y i. message_more w.appended e y.message (h.sent y i) } in
+      let k : WorldKnown app w.at w.sent =
+          record { logs = λ j. log_more w.appended e (w.at j) (h.logs j); sent = λ y i. message_more w.appended e y.message (h.sent y i) } in
       let l = append_grows app (w.at s) e (in_back e w.appended (e ∷ []) (inl refl)) (k.logs s) in
       record { known = stepped_known app w.at w.sent s (append (w.at s) e) k l; longer = stepped_longer w.at s (append (w.at s) e).log l.grows })
       (λ t. stays w h)
@@ -356,7 +403,9 @@ module _ {E : Type 0} where
     where
       on : (o : Option (Sent E)) → slice_get w.sent k ≡ o → Goes w (comes eq f w o)
       on None e = stays w h
-      on (Some x) e = steps_goes f w x.to (take_message eq (w.at x.to) x.from x.message) h (take_grows w.appended eq (w.at x.to) x.from x.message (h.sent x (in_got w.sent k x e)))
+      on (Some x) e =
+          steps_goes f w x.to (take_message eq (w.at x.to) x.from x.message) h
+          (take_grows w.appended eq (w.at x.to) x.from x.message (h.sent x (in_got w.sent k x e)))
 
   pub run_goes : (eq : E → E → Bool) (f : ℕ) (hs : List (Happening E)) (w : World E) → Known w → Goes w (run eq f hs w)
   run_goes eq f [] w h = stays w h

@@ -1,5 +1,6 @@
 -- What holds of every world, and what a step of one site owes.
-use Rattle.std.proofs.Common.{◌≡◌, ◌⊎◌, inl, inr, ⊎_elim, ℕ, ◌+◌, ◌-◌, ◌<◌, ◌≤◌, List, [], ◌∷◌, ◌++◌, length, drop, true, Option, Some, refl, sym, ◌∙◌, subst, arith}
+use Rattle.std.proofs.Common.{◌≡◌, ◌⊎◌, inl, inr, ⊎_elim, ℕ, ◌+◌, ◌-◌, ◌<◌, ◌≤◌, List, [], ◌∷◌, ◌++◌, length, drop, true, Option, Some, refl, sym}
+use Rattle.std.proofs.Common.{◌∙◌, subst, arith}
 use Rattle.std.specs.Prelude.{slice_get}
 use Rattle.std.proofs.lemmas.Bool.{cases_eq, eq-eqb, ne_eqb}
 use Rattle.us_kind.specs.Words.{In}
@@ -211,13 +212,18 @@ module _ {E : Type 0} (f : ℕ) (p p' : Past E) (s : ℕ) (o : Owes f p p' s) wh
   acks_later j b acks h = λ k n e l. let x = h k n e l in (o.told _ x.0, x.1, x.2)
 
   leading_later : (j b : ℕ) (log : List E) → (j ≡ s → ⊥) → owner f b ≡ j → IsLeading p b log → IsLeading p' b log
-  leading_later j b log apart own (inl k) = inl (⊎_elim (λ (a : owner f b ≡ s). absurd (apart (sym own ∙ a))) (λ (a : p'.logs b ≡ p.logs b). let P : List E → Type 0 = λ y. (length y ≤ length log) × Same (length y) log y in subst P (sym a) k) (o.new_logs b))
+  leading_later j b log apart own (inl k) =
+      inl (⊎_elim (λ (a : owner f b ≡ s). absurd (apart (sym own ∙ a)))
+      (λ (a : p'.logs b ≡ p.logs b). let P : List E → Type 0 = λ y. (length y ≤ length log) × Same (length y) log y in subst P (sym a) k)
+      (o.new_logs b))
   leading_later j b log apart own (inr x) = inr (blocked_later b (length log) o.grows x)
 
   role_later : (j : ℕ) (c : BallotLog E) (r : Role E) → (j ≡ s → ⊥) → RoleOk f p j c r → RoleOk f p' j c r
   role_later j c Follows apart h = tt
   role_later j c (Collects vows) apart h = record { owns = h.owns; new = h.new; vows = λ v i. vow_later c.ballot v (h.vows v i); apart = h.apart; own = h.own }
-  role_later j c (Leads acks) apart h = record { owns = h.owns; same = h.same; leading = leading_later j c.ballot (whole c) apart h.owns h.leading; acks = acks_later j c.ballot acks h.acks }
+  role_later j c (Leads acks) apart h =
+      record { owns = h.owns; same = h.same; leading = leading_later j c.ballot (whole c) apart h.owns h.leading;
+      acks = acks_later j c.ballot acks h.acks }
 
   pub site_later : (j : ℕ) (c : BallotLog E) → (j ≡ s → ⊥) → SiteOk f p j c → SiteOk f p' j c
   site_later j c apart h = record {
@@ -233,7 +239,8 @@ module _ {E : Type 0} (f : ℕ) (p p' : Past E) (s : ℕ) (o : Owes f p p' s) wh
   }
 
   -- ONE STEP
-  pub net_step : (at : ℕ → BallotLog E) (sent new : List (Sent E)) (c : BallotLog E) → Facts f p at sent → HistoryOk f p' → SiteOk f p' s c → ((x : Sent E) → In x new → SentOk f p' x) → Facts f p' (put at s c) (sent ++ new)
+  pub net_step : (at : ℕ → BallotLog E) (sent new : List (Sent E)) (c : BallotLog E) → Facts f p at sent → HistoryOk f p' → SiteOk f p' s c
+      → ((x : Sent E) → In x new → SentOk f p' x) → Facts f p' (put at s c) (sent ++ new)
   net_step at sent new c h history mine news = record {
     history = history;
     site = at_each (λ j x. SiteOk f p' j x) at s c (λ j n. site_later j (at j) n (h.site j)) mine;
@@ -243,7 +250,9 @@ module _ {E : Type 0} (f : ℕ) (p p' : Past E) (s : ℕ) (o : Owes f p p' s) wh
   -- the starts of before, where acknowledgements are new and logs are longer
   pub starts_kept : HistoryOk f p → StartsOk (sites f) p'.logs p'.choices p'.told p.starts
   starts_kept h = starts_later (sites f) p.logs p'.logs p.choices p'.choices p.told p'.told p.starts o.grows.longer o.grows.same o.grows.choices
-      (λ x i b z n j. ⊎_elim (λ a. inl a) (λ (a : (z ≡ s) × (p.up s ≤ b)). inr (λ q. let P : ℕ → Type 0 = λ y. x.quorum y ≡ true in let v = h.moved x i s (subst P a.0 q) in let w = a.1 in omega arith)) (o.new_acks b z n j))
+      (λ x i b z n j. ⊎_elim (λ a. inl a) (λ (a : (z ≡ s) × (p.up s ≤ b)). inr
+          (λ q. let P : ℕ → Type 0 = λ y. x.quorum y ≡ true in let v = h.moved x i s (subst P a.0 q) in let w = a.1 in omega arith))
+          (o.new_acks b z n j))
       h.starts
 
   pub choices_kept : HistoryOk f p → (c : Choice E) → In c p.choices → ChoiceOk (sites f) p'.logs p'.told c
@@ -255,4 +264,6 @@ module _ {E : Type 0} (f : ℕ) (p : Past E) (s : ℕ) where
 
   -- a step that leaves the history
   pub owes_nothing : Owes f p p s
-  owes_nothing = record { grows = grows_nowhere; told = λ a i. i; up = λ z. omega arith; new_acks = λ b z n i. inl i; new_starts = λ h i. inl i; new_logs = λ b. inr refl; same_up = λ z n. refl }
+  owes_nothing =
+      record { grows = grows_nowhere; told = λ a i. i; up = λ z. omega arith; new_acks = λ b z n i. inl i; new_starts = λ h i. inl i;
+      new_logs = λ b. inr refl; same_up = λ z n. refl }

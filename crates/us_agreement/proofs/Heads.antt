@@ -14,6 +14,7 @@ loses_heads eq tail [] = refl
 loses_heads eq [] (e ∷ es) = sym (nothing_left eq es)
 loses_heads {E} eq (x ∷ tail) (e ∷ es) = on (eq e x) (loses_heads eq tail es)
   where
-    on : (b : Bool) → trimmed eq tail es ≡ after_entries eq es tail → (if b && starts_with eq tail es then drop (length es) tail else []) ≡ after_entries eq es (if b then tail else [])
+    on : (b : Bool) → trimmed eq tail es ≡ after_entries eq es tail
+        → (if b && starts_with eq tail es then drop (length es) tail else []) ≡ after_entries eq es (if b then tail else [])
     on true h = h
     on false h = sym (nothing_left eq es)

@@ -51,7 +51,8 @@ pub data BestOk {E : Type 0} (hs : List (Start E)) (logs : ℕ → List E) (cs :
   learned : (c : Choice E) → In c cs → IsStarted hs c.ballot → b < c.ballot → m ≤ length c.log → Same m best c.log → BestOk hs logs cs best b m
   later : (h : Start E) → In h hs → b < h.ballot → m ≤ length (initial h) → Same m best (initial h) → BestOk hs logs cs best b m
   short : (h : Start E) → In h hs → b < h.ballot → length (initial h) < m → BestOk hs logs cs best b m
-  later_blocked : (h : Start E) → In h hs → b < h.ballot → m ≤ length (initial h) → length (initial h) ≤ length (logs h.ballot) → Same (length (initial h)) (initial h) (logs h.ballot) → Blocked hs logs h.ballot m → BestOk hs logs cs best b m
+  later_blocked : (h : Start E) → In h hs → b < h.ballot → m ≤ length (initial h) → length (initial h) ≤ length (logs h.ballot)
+      → Same (length (initial h)) (initial h) (logs h.ballot) → Blocked hs logs h.ballot m → BestOk hs logs cs best b m
 
 -- what a majority has acknowledged up to the length of l, and l is the front of it
 pub record IsChosen {E : Type 0} (hs : List (Start E)) (cs : List (Choice E)) (l : List E) : Type 0 where
@@ -61,7 +62,8 @@ pub record IsChosen {E : Type 0} (hs : List (Start E)) (cs : List (Choice E)) (l
   pub long : length l ≤ length choice.log
   pub same : Same (length l) l choice.log
 
-pub record StartOk {E : Type 0} (sites : List ℕ) (logs : ℕ → List E) (cs : List (Choice E)) (told : List Acknowledgement) (h : Start E) (hs : List (Start E)) : Type 0 where
+pub record StartOk {E : Type 0} (sites : List ℕ) (logs : ℕ → List E) (cs : List (Choice E)) (told : List Acknowledgement) (h : Start E)
+    (hs : List (Start E)) : Type 0 where
   pub majority : length sites < 2 * count h.quorum sites
   pub prefix_is : (length h.prefix ≡ 0) ⊎ IsChosen hs cs h.prefix
   pub acks : (z b n m : ℕ) → h.quorum z ≡ true → b < h.ballot → In (Ack b z n) told → m ≤ n → IsStarted hs b × BestOk hs logs cs h.best b m
@@ -80,13 +82,19 @@ pub record ChoiceOk {E : Type 0} (sites : List ℕ) (logs : ℕ → List E) (tol
 
 module _ {E : Type 0} where
   -- the start of a started ballot, and its facts
-  pub starts_in : (sites : List ℕ) (logs : ℕ → List E) (cs : List (Choice E)) (told : List Acknowledgement) (hs : List (Start E)) (h : Start E) → StartsOk sites logs cs told hs → In h hs → (length (initial h) ≤ length (logs h.ballot)) × Same (length (initial h)) (initial h) (logs h.ballot)
+  pub starts_in : (sites : List ℕ) (logs : ℕ → List E) (cs : List (Choice E)) (told : List Acknowledgement) (hs : List (Start E)) (h : Start E)
+      → StartsOk sites logs cs told hs → In h hs
+      → (length (initial h) ≤ length (logs h.ballot)) × Same (length (initial h)) (initial h) (logs h.ballot)
   starts_in sites logs cs told [] h ok i = absurd i
-  starts_in sites logs cs told (x ∷ hs) h ok (inl e) = subst (λ (y : Start E). (length (initial y) ≤ length (logs y.ballot)) × Same (length (initial y)) (initial y) (logs y.ballot)) e (ok.0.within, ok.0.extends)
+  starts_in sites logs cs told (x ∷ hs) h ok (inl e) =
+      subst (λ (y : Start E). (length (initial y) ≤ length (logs y.ballot)) × Same (length (initial y)) (initial y) (logs y.ballot)) e
+      (ok.0.within, ok.0.extends)
   starts_in sites logs cs told (x ∷ hs) h ok (inr i) = starts_in sites logs cs told hs h ok.1 i
 
   -- a choice of a greater ballot that differs from b's log blocks it
-  pub blocked_by_choice : (sites : List ℕ) (logs : ℕ → List E) (cs : List (Choice E)) (told : List Acknowledgement) (hs : List (Start E)) (c : Choice E) (b m : ℕ) → StartsOk sites logs cs told hs → ChoiceOk sites logs told c → IsStarted hs c.ballot → b < c.ballot → m ≤ length c.log → m ≤ length (logs b) → (Same m c.log (logs b) → ⊥) → Blocked hs logs b m
+  pub blocked_by_choice : (sites : List ℕ) (logs : ℕ → List E) (cs : List (Choice E)) (told : List Acknowledgement) (hs : List (Start E))
+      (c : Choice E) (b m : ℕ) → StartsOk sites logs cs told hs → ChoiceOk sites logs told c → IsStarted hs c.ballot → b < c.ballot → m ≤ length c.log
+      → m ≤ length (logs b) → (Same m c.log (logs b) → ⊥) → Blocked hs logs b m
   blocked_by_choice sites logs cs told hs c b m ok cok st above le within differ = record {
     place = m;
     by = st.start;
@@ -97,7 +105,8 @@ module _ {E : Type 0} where
     differ = λ s.
         let f = starts_in sites logs cs told hs st.start ok st.here in
         let long = same_length m (initial st.start) (logs b) within s in
-        let g : Same (length (initial st.start)) (initial st.start) (logs c.ballot) = (let P : ℕ → Type 0 = λ k. Same (length (initial st.start)) (initial st.start) (logs k) in subst P st.is f.1) in
+        let g : Same (length (initial st.start)) (initial st.start) (logs c.ballot) =
+            (let P : ℕ → Type 0 = λ k. Same (length (initial st.start)) (initial st.start) (logs k) in subst P st.is f.1) in
         differ (same_trans (same_less m le cok.same) (same_trans (same_sym (same_less m long g)) s));
   }
 
@@ -110,17 +119,25 @@ abbrev pub NotBlocked : {E : Type 0} → List ℕ → (ℕ → List E) → List 
 NotBlocked sites logs told hs = (b n : ℕ) (q : ℕ → Bool) → Acked sites told b n q → Blocked hs logs b n → ⊥
 
 module _ {E : Type 0} (dec : IsDecided E) where
-  acked_choice : (sites : List ℕ) (logs : ℕ → List E) (told : List Acknowledgement) (c : Choice E) → ChoiceOk sites logs told c → Acked sites told c.ballot (length c.log) c.quorum
+  acked_choice : (sites : List ℕ) (logs : ℕ → List E) (told : List Acknowledgement) (c : Choice E) → ChoiceOk sites logs told c
+      → Acked sites told c.ballot (length c.log) c.quorum
   acked_choice sites logs told c h = record { majority = h.majority; acks = h.acks }
 
   -- a choice is in each greater ballot's beginning, and in its log
-  pub choice_above : (sites : List ℕ) (logs : ℕ → List E) (cs : List (Choice E)) (told : List Acknowledgement) (hs : List (Start E)) → StartsOk sites logs cs told hs → NotBlocked sites logs told hs → (c : Choice E) → ChoiceOk sites logs told c → (b : ℕ) → IsStarted hs b → c.ballot ≤ b → (length c.log ≤ length (logs b)) × Same (length c.log) c.log (logs b)
+  pub choice_above : (sites : List ℕ) (logs : ℕ → List E) (cs : List (Choice E)) (told : List Acknowledgement) (hs : List (Start E))
+      → StartsOk sites logs cs told hs → NotBlocked sites logs told hs → (c : Choice E) → ChoiceOk sites logs told c → (b : ℕ) → IsStarted hs b
+      → c.ballot ≤ b → (length c.log ≤ length (logs b)) × Same (length c.log) c.log (logs b)
   choice_above sites logs cs told hs ok free c cok b st le = ⊎_elim
-      (λ (e : c.ballot ≡ b). let P : ℕ → Type 0 = λ x. (length c.log ≤ length (logs x)) × Same (length c.log) c.log (logs x) in subst P e (cok.within, cok.same))
-      (λ (n : c.ballot ≡ b → ⊥). ⊎_elim (λ s. at_greater n s) (λ d. absurd (free c.ballot (length c.log) c.quorum (acked_choice sites logs told c cok) (record { place = length c.log; by = st.start; le = omega arith; within = cok.within; here = st.here; above = (let e = st.is in omega arith); differ = d }))) (decide_same dec (length c.log) (initial st.start) (logs c.ballot)))
+      (λ (e : c.ballot ≡ b). let P : ℕ → Type 0 = λ x. (length c.log ≤ length (logs x)) × Same (length c.log) c.log (logs x) in subst P e
+          (cok.within, cok.same))
+      (λ (n : c.ballot ≡ b → ⊥). ⊎_elim (λ s. at_greater n s)
+          (λ d. absurd (free c.ballot (length c.log) c.quorum (acked_choice sites logs told c cok)
+          (record { place = length c.log; by = st.start; le = omega arith; within = cok.within; here = st.here;
+          above = (let e = st.is in omega arith); differ = d }))) (decide_same dec (length c.log) (initial st.start) (logs c.ballot)))
       (cases_eq c.ballot b)
     where
-      at_greater : (c.ballot ≡ b → ⊥) → Same (length c.log) (initial st.start) (logs c.ballot) → (length c.log ≤ length (logs b)) × Same (length c.log) c.log (logs b)
+      at_greater : (c.ballot ≡ b → ⊥) → Same (length c.log) (initial st.start) (logs c.ballot)
+          → (length c.log ≤ length (logs b)) × Same (length c.log) c.log (logs b)
       at_greater n s =
           let f = starts_in sites logs cs told hs st.start ok st.here in
           let long = same_length (length c.log) (initial st.start) (logs c.ballot) cok.within s in
@@ -128,7 +145,10 @@ module _ {E : Type 0} (dec : IsDecided E) where
           let g = subst P st.is f in
           (omega (arith, g.0), same_trans cok.same (same_trans (same_sym s) (same_less _ long g.1)))
 
-  block_step : (sites : List ℕ) (logs : ℕ → List E) (cs : List (Choice E)) (told : List Acknowledgement) → ((c : Choice E) → In c cs → ChoiceOk sites logs told c) → (h : Start E) (hs : List (Start E)) → StartOk sites logs cs told h hs → StartsOk sites logs cs told hs → NotBlocked sites logs told hs → (b n : ℕ) (q : ℕ → Bool) → Acked sites told b n q → (m : ℕ) → m ≤ n → m ≤ length (logs b) → b < h.ballot → (Same m (initial h) (logs b) → ⊥) → ⊥
+  block_step : (sites : List ℕ) (logs : ℕ → List E) (cs : List (Choice E)) (told : List Acknowledgement)
+      → ((c : Choice E) → In c cs → ChoiceOk sites logs told c) → (h : Start E) (hs : List (Start E)) → StartOk sites logs cs told h hs
+      → StartsOk sites logs cs told hs → NotBlocked sites logs told hs → (b n : ℕ) (q : ℕ → Bool) → Acked sites told b n q → (m : ℕ) → m ≤ n
+      → m ≤ length (logs b) → b < h.ballot → (Same m (initial h) (logs b) → ⊥) → ⊥
   block_step sites logs cs told choices h hs ok oks free b n q acked m le within above differ =
       let z = shared h.quorum q sites ok.majority acked.majority in
       let zs = and_parts _ _ z.2 in
@@ -152,7 +172,8 @@ module _ {E : Type 0} (dec : IsDecided E) where
       at_best : (Same m h.best (logs b) → ⊥) → BestOk hs logs cs h.best b m → ⊥
       at_best away (own w s) = away s
       at_best away (blocked bl) = again m le bl
-      at_best away (learned c i st a l s) = again m le (blocked_by_choice sites logs cs told hs c b m oks (choices c i) st a l within (λ t. away (same_trans s t)))
+      at_best away (learned c i st a l s) =
+          again m le (blocked_by_choice sites logs cs told hs c b m oks (choices c i) st a l within (λ t. away (same_trans s t)))
       at_best away (later y i a l s) = by_start m y i le within a (λ t. away (same_trans s t))
       at_best away (short y i a l) = by_start m y i le within a (λ t. let x = same_length m (initial y) (logs b) within t in omega arith)
       at_best away (later_blocked y i a l w' ext bl) = ⊎_elim
@@ -167,8 +188,12 @@ module _ {E : Type 0} (dec : IsDecided E) where
       by_prefix st best (inl e) = at_best (λ s. differ (record { at = λ k l. merged-back h.prefix h.best k (omega arith) ∙ s.at k l })) best
       by_prefix st best (inr p) = ⊎_elim
           (λ (a : b < p.choice.ballot). ⊎_elim
-          (λ (l : m ≤ length h.prefix). ⊎_elim (λ s. differ (same_trans (front m l) s)) (λ d. again m le (blocked_by_choice sites logs cs told hs p.choice b m oks (choices p.choice p.here) p.started a (let x = p.long in omega arith) within d)) (decide_same dec m p.choice.log (logs b)))
-          (λ (l : length h.prefix < m). ⊎_elim (λ s. at_best (λ t. differ (both l s t)) best) (λ d. again (length h.prefix) (omega arith) (blocked_by_choice sites logs cs told hs p.choice b (length h.prefix) oks (choices p.choice p.here) p.started a p.long (omega arith) d)) (decide_same dec (length h.prefix) p.choice.log (logs b)))
+          (λ (l : m ≤ length h.prefix). ⊎_elim (λ s. differ (same_trans (front m l) s))
+              (λ d. again m le (blocked_by_choice sites logs cs told hs p.choice b m oks (choices p.choice p.here) p.started a
+              (let x = p.long in omega arith) within d)) (decide_same dec m p.choice.log (logs b)))
+          (λ (l : length h.prefix < m). ⊎_elim (λ s. at_best (λ t. differ (both l s t)) best)
+              (λ d. again (length h.prefix) (omega arith) (blocked_by_choice sites logs cs told hs p.choice b (length h.prefix) oks
+              (choices p.choice p.here) p.started a p.long (omega arith) d)) (decide_same dec (length h.prefix) p.choice.log (logs b)))
           (le_or_lt m (length h.prefix)))
           (λ (a : p.choice.ballot ≤ b).
           let f = choice_above sites logs cs told hs oks free p.choice (choices p.choice p.here) b st a in
@@ -192,18 +217,24 @@ module _ {E : Type 0} (dec : IsDecided E) where
                 (cases_lt k (length h.prefix));
           }
 
-  pub not_blocked : (sites : List ℕ) (logs : ℕ → List E) (cs : List (Choice E)) (told : List Acknowledgement) → ((c : Choice E) → In c cs → ChoiceOk sites logs told c) → (hs : List (Start E)) → StartsOk sites logs cs told hs → NotBlocked sites logs told hs
+  pub not_blocked : (sites : List ℕ) (logs : ℕ → List E) (cs : List (Choice E)) (told : List Acknowledgement)
+      → ((c : Choice E) → In c cs → ChoiceOk sites logs told c) → (hs : List (Start E)) → StartsOk sites logs cs told hs
+      → NotBlocked sites logs told hs
   not_blocked sites logs cs told choices [] ok b n q acked bl = bl.here
   not_blocked sites logs cs told choices (h ∷ hs) ok b n q acked bl =
       let free = not_blocked sites logs cs told choices hs ok.1 in
       ⊎_elim
-      (λ (e : h ≡ bl.by). let P : Start E → Type 0 = λ x. (b < x.ballot) × (Same bl.place (initial x) (logs b) → ⊥) in let f = subst P (sym e) (bl.above, bl.differ) in block_step sites logs cs told choices h hs ok.0 ok.1 free b n q acked bl.place bl.le bl.within f.0 f.1)
+      (λ (e : h ≡ bl.by). let P : Start E → Type 0 = λ x. (b < x.ballot) × (Same bl.place (initial x) (logs b) → ⊥) in let f = subst P (sym e)
+          (bl.above, bl.differ) in block_step sites logs cs told choices h hs ok.0 ok.1 free b n q acked bl.place bl.le bl.within f.0 f.1)
       (λ i. free b n q acked (record { place = bl.place; by = bl.by; le = bl.le; within = bl.within; here = i; above = bl.above; differ = bl.differ }))
       bl.here
 
   -- AGREEMENT: of two choices the shorter is the front of the longer
-  pub comparable : (sites : List ℕ) (logs : ℕ → List E) (cs : List (Choice E)) (told : List Acknowledgement) (hs : List (Start E)) → StartsOk sites logs cs told hs → NotBlocked sites logs told hs → (c d : Choice E) → ChoiceOk sites logs told c → ChoiceOk sites logs told d → IsStarted hs c.ballot → IsStarted hs d.ballot → length c.log ≤ length d.log → Same (length c.log) c.log d.log
+  pub comparable : (sites : List ℕ) (logs : ℕ → List E) (cs : List (Choice E)) (told : List Acknowledgement) (hs : List (Start E))
+      → StartsOk sites logs cs told hs → NotBlocked sites logs told hs → (c d : Choice E) → ChoiceOk sites logs told c → ChoiceOk sites logs told d
+      → IsStarted hs c.ballot → IsStarted hs d.ballot → length c.log ≤ length d.log → Same (length c.log) c.log d.log
   comparable sites logs cs told hs ok free c d cok dok cst dst le = ⊎_elim
-      (λ (l : c.ballot < d.ballot). same_trans (choice_above sites logs cs told hs ok free c cok d.ballot dst (omega arith)).1 (same_sym (same_less _ le dok.same)))
+      (λ (l : c.ballot < d.ballot). same_trans (choice_above sites logs cs told hs ok free c cok d.ballot dst (omega arith)).1
+          (same_sym (same_less _ le dok.same)))
       (λ (l : d.ballot ≤ c.ballot). same_trans cok.same (same_sym (same_less _ le (choice_above sites logs cs told hs ok free d dok c.ballot cst l).1)))
       (cases_lt c.ballot d.ballot)

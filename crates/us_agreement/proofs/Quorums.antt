@@ -10,7 +10,8 @@ both_count : (p q : ℕ → Bool) (xs : List ℕ) → count p xs + count q xs �
 both_count p q [] = omega arith
 both_count p q (x ∷ xs) = on (p x) (q x) refl refl (both_count p q xs)
   where
-    on : (a b : Bool) → p x ≡ a → q x ≡ b → count p xs + count q xs ≤ length xs + count (λ x. p x && q x) xs → count p (x ∷ xs) + count q (x ∷ xs) ≤ length (x ∷ xs) + count (λ x. p x && q x) (x ∷ xs)
+    on : (a b : Bool) → p x ≡ a → q x ≡ b → count p xs + count q xs ≤ length xs + count (λ x. p x && q x) xs
+        → count p (x ∷ xs) + count q (x ∷ xs) ≤ length (x ∷ xs) + count (λ x. p x && q x) (x ∷ xs)
     on true true e f h = rw (e, f) (omega arith)
     on true false e f h = rw (e, f) (omega arith)
     on false true e f h = rw (e, f) (omega arith)

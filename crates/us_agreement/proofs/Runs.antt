@@ -1,5 +1,6 @@
 -- Every run keeps the facts, so chosen lists agree, and what is chosen is held by many.
-use Rattle.std.proofs.Common.{◌≡◌, ◌⊎◌, inl, inr, ⊎_elim, ℕ, zero, suc, ◌+◌, ◌-◌, ◌*◌, ◌<◌, List, [], ◌∷◌, ◌++◌, length, Bool, true, false, Option, Some, None, refl, sym, ap, ◌∙◌, subst, arith, true≢false}
+use Rattle.std.proofs.Common.{◌≡◌, ◌⊎◌, inl, inr, ⊎_elim, ℕ, zero, suc, ◌+◌, ◌-◌, ◌*◌, ◌<◌, List, [], ◌∷◌, ◌++◌, length, Bool, true, false, Option}
+use Rattle.std.proofs.Common.{Some, None, refl, sym, ap, ◌∙◌, subst, arith, true≢false}
 use Rattle.std.specs.Prelude.{◌==◌, ◌&&◌, if◌then◌else◌, nat_le, replicate, slice_get}
 use Rattle.std.specs.Bool.{Decides}
 use Rattle.std.proofs.Math.Nat.{zero-mod}
@@ -9,7 +10,8 @@ use Rattle.us_kind.proofs.ListLemmas.{in_got}
 use Rattle.us_ballot_model.specs.declared.log.Role.TheVariants.{Follows, Leads}
 use Rattle.us_ballot_model.specs.Ballots.{sites, sites_from, owner, first_acks, opening}
 use Rattle.us_ballot_model.specs.Rules.{Stepped, lead, may_append, append, tick, take_message}
-use Rattle.us_ballot_model.specs.Worlds.{Sent, World, Happening, Leads as LeadsNow, Appends, Ticks, Crashes, Comes, acts, stepped, steps, comes, happens, run, opening_world}
+use Rattle.us_ballot_model.specs.Worlds.{Sent, World, Happening, Leads as LeadsNow, Appends, Ticks, Crashes, Comes, acts, stepped, steps, comes}
+use Rattle.us_ballot_model.specs.Worlds.{happens, run, opening_world}
 use Rattle.us_agreement.specs.Words.{count}
 use Rattle.us_agreement.proofs.Same.{IsDecided, same_refl}
 use Rattle.us_agreement.proofs.History.{Start, Choice, IsStarted, ChoiceOk}
@@ -55,9 +57,16 @@ module _ (E : Type 0) (f : ℕ) where
   first_history : HistoryOk f first_past
   unfolding first_past first_start no_choice
   first_history = record {
-    starts = (record { majority = all_many f; prefix_is = inl refl; acks = λ z b n m q lt i le. absurd i; within = omega (arith, length-merged {E = E} [] []); extends = record { at = λ k l. absurd (omega (arith, length-merged {E = E} [] [])) } }, tt);
-    choices = λ c i. ⊎_elim (λ (e : no_choice ≡ c). subst (ChoiceOk (sites f) (λ b. []) []) e (record { within = omega arith; same = same_refl 0 []; majority = all_many f; acks = λ x q l. absurd (omega arith) })) (λ n. absurd n) i;
-    started = λ c i. ⊎_elim (λ (e : no_choice ≡ c). let P : Choice E → Type 0 = λ y. IsStarted (first_start ∷ []) y.ballot in subst P e (record { start = first_start; here = inl refl; is = refl })) (λ n. absurd n) i;
+    starts =
+        (record { majority = all_many f; prefix_is = inl refl; acks = λ z b n m q lt i le. absurd i;
+        within = omega (arith, length-merged {E = E} [] []); extends = record { at = λ k l. absurd (omega (arith, length-merged {E = E} [] [])) } },
+        tt);
+    choices =
+        λ c i. ⊎_elim (λ (e : no_choice ≡ c). subst (ChoiceOk (sites f) (λ b. []) []) e
+        (record { within = omega arith; same = same_refl 0 []; majority = all_many f; acks = λ x q l. absurd (omega arith) })) (λ n. absurd n) i;
+    started =
+        λ c i. ⊎_elim (λ (e : no_choice ≡ c). let P : Choice E → Type 0 = λ y. IsStarted (first_start ∷ []) y.ballot in subst P e
+        (record { start = first_start; here = inl refl; is = refl })) (λ n. absurd n) i;
     empty = λ b away. refl;
     moved = λ h i z q. ⊎_elim (λ (e : first_start ≡ h). let x = ap (λ (y : Start E). y.ballot) e in omega arith) (λ n. absurd n) i;
   }
@@ -80,8 +89,12 @@ module _ (E : Type 0) (f : ℕ) where
     site_is = refl;
     reached = omega arith;
     acc = omega arith;
-    log = record { at_each = λ n le. is_own le (record { at = λ k l. absurd (omega arith) }); start = first_start; here = inl refl; is = refl; long = inl (omega (arith, length-merged {E = E} [] [])) };
-    chosen = record { choice = no_choice; here = inl refl; started = record { start = first_start; here = inl refl; is = refl }; long = omega arith; same = same_refl 0 [] };
+    log =
+        record { at_each = λ n le. is_own le (record { at = λ k l. absurd (omega arith) }); start = first_start; here = inl refl; is = refl;
+        long = inl (omega (arith, length-merged {E = E} [] [])) };
+    chosen =
+        record { choice = no_choice; here = inl refl; started = record { start = first_start; here = inl refl; is = refl }; long = omega arith;
+        same = same_refl 0 [] };
     role = first_role s;
     owned = λ h i e. ⊎_elim (λ (q : first_start ≡ h). let x = ap (λ (y : Start E). y.ballot) q in omega arith) (λ n. absurd n) i;
     acks = λ b n i. absurd i;
@@ -115,7 +128,8 @@ module _ {E : Type 0} (eq : E → E → Bool) (decides : (x y : E) → Decides (
     happens_ok w (LeadsNow s) h = stepped_ok w s (lead (w.at s)) h (λ here. lead_does dec f s here [] (w.at s))
     happens_ok w (Ticks s) h = stepped_ok w s (tick (w.at s)) h (λ here. tick_does dec f s here [] (w.at s))
     happens_ok w (Crashes s) h = h
-    happens_ok w (Appends s e) h = cond_both (acts f w s && may_append (w.at s)) (record (stepped w s (append (w.at s) e)) { appended = w.appended ++ e ∷ [] }) w (WorldOk f)
+    happens_ok w (Appends s e) h =
+        cond_both (acts f w s && may_append (w.at s)) (record (stepped w s (append (w.at s) e)) { appended = w.appended ++ e ∷ [] }) w (WorldOk f)
         (λ t. append_does dec f s (acting w s (and_parts (acts f w s) (may_append (w.at s)) t).0) [] (w.at s) e w.at w.sent refl h (λ x i. absurd i))
         (λ t. h)
     happens_ok w (Comes k) h = on (slice_get w.sent k) refl
@@ -126,7 +140,8 @@ module _ {E : Type 0} (eq : E → E → Bool) (decides : (x y : E) → Decides (
             let there = in_got w.sent k x e in
             let ok = h.facts.sent x there in
             cond_both (acts f w x.to) (stepped w x.to (take_message eq (w.at x.to) x.from x.message)) w (WorldOk f)
-            (λ t. take_does dec f x.to (acting w x.to t) (x ∷ []) eq decides (w.at x.to) x.from x.message (λ p given. given x (inl refl)) ok.apart w.at w.sent refl h (λ y i. ⊎_elim (λ q. subst (λ z. In z w.sent) q there) (λ n. absurd n) i))
+            (λ t. take_does dec f x.to (acting w x.to t) (x ∷ []) eq decides (w.at x.to) x.from x.message (λ p given. given x (inl refl)) ok.apart
+                w.at w.sent refl h (λ y i. ⊎_elim (λ q. subst (λ z. In z w.sent) q there) (λ n. absurd n) i))
             (λ t. h)
 
     run_ok : (hs : List (Happening E)) (w : World E) → WorldOk f w → WorldOk f (run eq f hs w)

@@ -59,7 +59,8 @@ module _ {E : Type 0} (dec : IsDecided E) where
       more : Same n xs ys → slice_get xs n ≡ slice_get ys n → (k : ℕ) → k < suc n → slice_get xs k ≡ slice_get ys k
       more h e k l = ⊎_elim (λ (s : k ≡ n). subst (λ j. slice_get xs j ≡ slice_get ys j) (sym s) e) (λ (s : k ≡ n → ⊥). h.at k (omega arith)) (cases_eq k n)
 
-      on : Same n xs ys ⊎ (Same n xs ys → ⊥) → (slice_get xs n ≡ slice_get ys n) ⊎ (slice_get xs n ≡ slice_get ys n → ⊥) → Same (suc n) xs ys ⊎ (Same (suc n) xs ys → ⊥)
+      on : Same n xs ys ⊎ (Same n xs ys → ⊥) → (slice_get xs n ≡ slice_get ys n) ⊎ (slice_get xs n ≡ slice_get ys n → ⊥)
+          → Same (suc n) xs ys ⊎ (Same (suc n) xs ys → ⊥)
       on (inl h) (inl e) = inl (record { at = more h e })
       on (inl h) (inr e) = inr (λ s. e (s.at n (omega arith)))
       on (inr h) e = inr (λ s. h (same_less n (omega arith) s))
@@ -68,7 +69,9 @@ module _ {E : Type 0} where
   pub get_drop : (n : ℕ) (xs : List E) (k : ℕ) → slice_get (drop n xs) k ≡ slice_get xs (n + k)
   get_drop zero xs k = let P : ℕ → Type 0 = λ j. slice_get xs k ≡ slice_get xs j in let e : k ≡ 0 + k = omega arith in subst P e refl
   get_drop (suc n) [] k = refl
-  get_drop (suc n) (x ∷ xs) k = let P : ℕ → Type 0 = λ j. slice_get (drop n xs) k ≡ slice_get (x ∷ xs) j in let e : suc (n + k) ≡ suc n + k = omega arith in subst P e (get_drop n xs k)
+  get_drop (suc n) (x ∷ xs) k =
+      let P : ℕ → Type 0 = λ j. slice_get (drop n xs) k ≡ slice_get (x ∷ xs) j in let e : suc (n + k) ≡ suc n + k = omega arith in subst P e
+      (get_drop n xs k)
 
   pub get_front : (xs ys : List E) (k : ℕ) → k < length xs → slice_get (xs ++ ys) k ≡ slice_get xs k
   get_front [] ys k h = absurd (omega arith)
@@ -77,7 +80,9 @@ module _ {E : Type 0} where
 
   pub get_back : (xs ys : List E) (k : ℕ) → slice_get (xs ++ ys) (length xs + k) ≡ slice_get ys k
   get_back [] ys k = let P : ℕ → Type 0 = λ j. slice_get ys j ≡ slice_get ys k in let e : k ≡ 0 + k = omega arith in subst P e refl
-  get_back (x ∷ xs) ys k = let P : ℕ → Type 0 = λ j. slice_get (x ∷ xs ++ ys) j ≡ slice_get ys k in let e : suc (length xs + k) ≡ suc (length xs) + k = omega arith in subst P e (get_back xs ys k)
+  get_back (x ∷ xs) ys k =
+      let P : ℕ → Type 0 = λ j. slice_get (x ∷ xs ++ ys) j ≡ slice_get ys k in let e : suc (length xs + k) ≡ suc (length xs) + k = omega arith
+      in subst P e (get_back xs ys k)
 
   pub same_front : (xs ys : List E) → Same (length xs) (xs ++ ys) xs
   same_front xs ys = record { at = λ k l. get_front xs ys k l }

@@ -1,5 +1,6 @@
 -- What a start keeps: a ballot begins with the best of f + 1 promises.
-use Rattle.std.proofs.Common.{◌≡◌, ◌⊎◌, inl, inr, ⊎_elim, ℕ, zero, suc, ◌+◌, ◌-◌, ◌*◌, ◌<◌, ◌≤◌, List, [], ◌∷◌, ◌++◌, length, length-append, drop, Bool, true, false, Some, None, refl, sym, ap, ◌∙◌, subst, arith, true≢false}
+use Rattle.std.proofs.Common.{◌≡◌, ◌⊎◌, inl, inr, ⊎_elim, ℕ, zero, suc, ◌+◌, ◌-◌, ◌*◌, ◌<◌, ◌≤◌, List, [], ◌∷◌, ◌++◌, length, length-append, drop}
+use Rattle.std.proofs.Common.{Bool, true, false, Some, None, refl, sym, ap, ◌∙◌, subst, arith, true≢false}
 use Rattle.std.specs.Prelude.{◌==◌, ◌&&◌, ◌||◌, if◌then◌else◌, nat_lt, replicate, slice_get}
 use Rattle.std.proofs.lemmas.List.{drop-drop}
 use Rattle.std.proofs.Math.Seq.{drop-append_seam}
@@ -58,17 +59,22 @@ better {E} u v = on (is_better u v) refl
     longer : (nat_lt (reach v) (reach u) || ((reach v == reach u) && nat_lt u.site v.site)) ≡ true → reach v ≤ reach u
     longer e = ⊎_elim
         (λ (a : nat_lt (reach v) (reach u) ≡ true). let x : reach v < reach u = ltb-true (reach v) (reach u) a in omega arith)
-        (λ (a : ((reach v == reach u) && nat_lt u.site v.site) ≡ true). let x : reach v ≡ reach u = eqb-true (reach v) (reach u) (and_parts (reach v == reach u) (nat_lt u.site v.site) a).0 in omega arith)
+        (λ (a : ((reach v == reach u) && nat_lt u.site v.site) ≡ true). let x : reach v ≡ reach u = eqb-true (reach v) (reach u)
+            (and_parts (reach v == reach u) (nat_lt u.site v.site) a).0 in omega arith)
         (or_cases (nat_lt (reach v) (reach u)) ((reach v == reach u) && nat_lt u.site v.site) e)
 
     on : (t : Bool) → is_better u v ≡ t → Beats (if t then u else v) v × Beats (if t then u else v) u
-    on true e = (⊎_elim (λ a. inl (ltb-true _ _ a)) (λ a. let f = and_parts _ _ a in inr (eqb-true v.accepted u.accepted f.0, longer f.1)) (or_cases _ _ e), inr (refl, omega arith))
+    on true e =
+        (⊎_elim (λ a. inl (ltb-true _ _ a)) (λ a. let f = and_parts _ _ a in inr (eqb-true v.accepted u.accepted f.0, longer f.1)) (or_cases _ _ e),
+        inr (refl, omega arith))
     on false e = (inr (refl, omega arith), worse (not_less v.accepted u.accepted _ e))
       where
-        worse : (u.accepted ≤ v.accepted) × (((v.accepted == u.accepted) && (nat_lt (reach v) (reach u) || ((reach v == reach u) && nat_lt u.site v.site))) ≡ false) → Beats v u
+        worse : (u.accepted ≤ v.accepted) × (((v.accepted == u.accepted) &&
+            (nat_lt (reach v) (reach u) || ((reach v == reach u) && nat_lt u.site v.site))) ≡ false) → Beats v u
         worse w = ⊎_elim
             (λ (l : u.accepted < v.accepted). inl l)
-            (λ (l : v.accepted ≤ u.accepted). let q : v.accepted ≡ u.accepted = (let x = w.0 in omega arith) in inr (sym q, (not_less (reach v) (reach u) _ (not_both v.accepted u.accepted _ w.1 q)).0))
+            (λ (l : v.accepted ≤ u.accepted). let q : v.accepted ≡ u.accepted = (let x = w.0 in omega arith) in inr
+                (sym q, (not_less (reach v) (reach u) _ (not_both v.accepted u.accepted _ w.1 q)).0))
             (cases_lt u.accepted v.accepted)
 
 best_both : {E : Type 0} (v : Vow E) (vs : List (Vow E)) → Beats (best v vs) v × ((u : Vow E) → In u vs → Beats (best v vs) u)
@@ -91,7 +97,9 @@ best_in v (u ∷ us) = on (is_better u v) (best_in u us) (best_in v us)
     on true a b = inr a
     on false a b = ⊎_elim (λ e. inl e) (λ j. inr (inr j)) b
 
-module _ {E : Type 0} (dec : IsDecided E) (f : ℕ) (p : Past E) (hist : HistoryOk f p) (s : ℕ) (here : In s (sites f)) (c : BallotLog E) (g : SiteOk f p s c) (v : Vow E) (vs : List (Vow E)) (h : CollectOk f p s c (v ∷ vs)) (enough : f < length (v ∷ vs)) (le : (best v vs).base ≤ length c.chosen) where
+module _ {E : Type 0} (dec : IsDecided E) (f : ℕ) (p : Past E) (hist : HistoryOk f p) (s : ℕ) (here : In s (sites f)) (c : BallotLog E)
+    (g : SiteOk f p s c) (v : Vow E) (vs : List (Vow E)) (h : CollectOk f p s c (v ∷ vs)) (enough : f < length (v ∷ vs))
+    (le : (best v vs).base ≤ length c.chosen) where
   the_best : VowOk f p c.ballot (best v vs)
   the_best = h.vows (best v vs) (best_in v vs)
 
@@ -107,7 +115,8 @@ module _ {E : Type 0} (dec : IsDecided E) (f : ℕ) (p : Past E) (hist : History
   is_led =
       let b = (best v vs).base in
       let e : b + (length c.chosen - b) ≡ length c.chosen = omega arith in
-      ap (λ l. c.chosen ++ l) (ap (λ k. drop k the_best.log) (sym e) ∙ sym (drop-drop (length c.chosen - b) b the_best.log) ∙ ap (drop (length c.chosen - b)) the_best.is)
+      ap (λ l. c.chosen ++ l) (ap (λ k. drop k the_best.log) (sym e) ∙ sym (drop-drop (length c.chosen - b) b the_best.log) ∙ ap
+          (drop (length c.chosen - b)) the_best.is)
 
   fresh : IsStarted p.starts c.ballot → ⊥
   fresh st = let x = g.owned st.start st.here (ap (owner f) st.is ∙ h.owns) in let y = st.is in let z = h.new in omega arith
@@ -124,7 +133,9 @@ module _ {E : Type 0} (dec : IsDecided E) (f : ℕ) (p : Past E) (hist : History
 
   grows_logs : Grows p.starts p.starts p.logs logs' p.choices p.choices
   unfolding logs'
-  grows_logs = put_grows p.starts p.logs p.choices c.ballot first_log (let x = nothing in omega arith) (record { at = λ k l. absurd (let x = nothing in omega arith) })
+  grows_logs =
+      put_grows p.starts p.logs p.choices c.ballot first_log (let x = nothing in omega arith)
+      (record { at = λ k l. absurd (let x = nothing in omega arith) })
 
   middle_past : Past E
   middle_past = record p { logs = logs' }
@@ -138,7 +149,9 @@ module _ {E : Type 0} (dec : IsDecided E) (f : ℕ) (p : Past E) (hist : History
 
   middle_owes : Owes f p middle_past s
   unfolding middle_past
-  middle_owes = record { grows = grows_logs; told = λ a i. i; up = λ z. omega arith; new_acks = λ b z k i. inl i; new_starts = λ h i. inl i; new_logs = own_logs; same_up = λ z a. refl }
+  middle_owes =
+      record { grows = grows_logs; told = λ a i. i; up = λ z. omega arith; new_acks = λ b z k i. inl i; new_starts = λ h i. inl i;
+      new_logs = own_logs; same_up = λ z a. refl }
 
   begun_owes : Owes f p begun_past s
   unfolding begun_past begins
@@ -167,8 +180,12 @@ module _ {E : Type 0} (dec : IsDecided E) (f : ℕ) (p : Past E) (hist : History
         let k = x.acks b n (subst (λ y. In (Ack b y n) p.told) (sym r.2) i) lt in
         let mine : Claim E = record { accepted = (best v vs).accepted; log = the_best.log } in
         let theirs : Claim E = record { accepted = (r.0).accepted; log = x.log } in
-        let beats = ⊎_elim (λ (a : (r.0).accepted < (best v vs).accepted). inl a) (λ (a : ((r.0).accepted ≡ (best v vs).accepted) × (reach r.0 ≤ reach (best v vs))). inr (a.0, let y = a.1 in let u = x.fits in let w = the_best.fits in omega arith)) (best_beats v vs r.0 r.1) in
-        (k.1, best_later the_best.log b m grows_logs (best_ok dec (sites f) p.starts p.logs p.choices p.told hist.starts hist.choices hist.started mine theirs the_best.facts beats b n m k le));
+        let beats =
+            ⊎_elim (λ (a : (r.0).accepted < (best v vs).accepted). inl a)
+            (λ (a : ((r.0).accepted ≡ (best v vs).accepted) × (reach r.0 ≤ reach (best v vs))). inr
+            (a.0, let y = a.1 in let u = x.fits in let w = the_best.fits in omega arith)) (best_beats v vs r.0 r.1) in
+        (k.1, best_later the_best.log b m grows_logs (best_ok dec (sites f) p.starts p.logs p.choices p.told hist.starts hist.choices hist.started
+            mine theirs the_best.facts beats b n m k le));
     within = (let x = ap length at in omega arith);
     extends = (let P : List E → Type 0 = λ y. Same (length first_log) first_log y in subst P (sym at) (same_refl _ first_log));
   }
@@ -182,7 +199,9 @@ module _ {E : Type 0} (dec : IsDecided E) (f : ℕ) (p : Past E) (hist : History
     empty = λ b away.
         let q : b ≡ c.ballot → ⊥ = λ z. away (record { start = begins; here = inl refl; is = sym z }) in
         ap length (other b q) ∙ hist.empty b (λ st. away (record { start = st.start; here = inr st.here; is = st.is }));
-    moved = λ x i z q. ⊎_elim (λ (e : begins ≡ x). let P : Start E → Type 0 = λ y. y.quorum z ≡ true → y.ballot ≤ p.up z in subst P e (λ k. promised z k) q) (λ j. hist.moved x j z q) i;
+    moved =
+        λ x i z q. ⊎_elim (λ (e : begins ≡ x). let P : Start E → Type 0 = λ y. y.quorum z ≡ true → y.ballot ≤ p.up z in subst P e (λ k. promised z k)
+        q) (λ j. hist.moved x j z q) i;
   }
     where
       other : (b : ℕ) → (b ≡ c.ballot → ⊥) → logs' b ≡ p.logs b
@@ -194,7 +213,9 @@ module _ {E : Type 0} (dec : IsDecided E) (f : ℕ) (p : Past E) (hist : History
   led_log : LogIs begun_past c.ballot first_log
   unfolding begun_past begins first_log
   led_log = record {
-    at_each = λ n le. let P : List E → Type 0 = λ y. (n ≤ length y) × Same n first_log y in let r = subst P (sym at) (le, same_refl n first_log) in is_own r.0 r.1;
+    at_each =
+        λ n le. let P : List E → Type 0 = λ y. (n ≤ length y) × Same n first_log y in let r = subst P (sym at) (le, same_refl n first_log) in is_own
+        r.0 r.1;
     start = begins;
     here = inl refl;
     is = refl;
@@ -217,10 +238,14 @@ module _ {E : Type 0} (dec : IsDecided E) (f : ℕ) (p : Past E) (hist : History
       role = record {
         owns = h.owns;
         same = refl;
-        leading = subst (IsLeading begun_past c.ballot) is_led (inl (let P : List E → Type 0 = λ y. (length y ≤ length first_log) × Same (length y) first_log y in subst P (sym at) (omega arith, same_refl _ first_log)));
+        leading =
+            subst (IsLeading begun_past c.ballot) is_led (inl (let P : List E → Type 0 = λ y. (length y ≤ length first_log) × Same (length y)
+            first_log y in subst P (sym at) (omega arith, same_refl _ first_log)));
         acks = λ k n e l. absurd (no_ack 9 k n e);
       };
-      owned = λ x i e. ⊎_elim (λ (q : begins ≡ x). let P : Start E → Type 0 = λ y. y.ballot ≤ c.ballot in subst P q (omega arith)) (λ j. let y = g.owned x j e in let z = h.new in omega arith) i;
+      owned =
+          λ x i e. ⊎_elim (λ (q : begins ≡ x). let P : Start E → Type 0 = λ y. y.ballot ≤ c.ballot in subst P q (omega arith))
+          (λ j. let y = g.owned x j e in let z = h.new in omega arith) i;
       acks = λ b n i.
           let k = g.acks b n i in
           let x = k.0 in

@@ -11,7 +11,8 @@ use Rattle.us_ballot_model.specs.declared.message.BallotMessage.{BallotMessage}
 use Rattle.us_ballot_model.specs.Ballots.{sites, others, to_others, count}
 use Rattle.us_ballot_model.specs.Worlds.{Sent, put, sent_by}
 use Rattle.us_agreement.proofs.History.{Ack}
-use Rattle.us_agreement.proofs.Facts.{Past, whole, VowOk, MessageOk, SentOk, RoleOk, SiteOk, HistoryOk, Holds, Owes, put_same, put_other, at_each, put_put, net_step, owes_nothing}
+use Rattle.us_agreement.proofs.Facts.{Past, whole, VowOk, MessageOk, SentOk, RoleOk, SiteOk, HistoryOk, Holds, Owes, put_same, put_other, at_each}
+use Rattle.us_agreement.proofs.Facts.{put_put, net_step, owes_nothing}
 
 pub in_mapped : {X Y : Type 0} (f : X → Y) (y : Y) (xs : List X) → In y (map f xs) → (x : X) × In x xs × (f x ≡ y)
 in_mapped f y [] i = absurd i
@@ -36,10 +37,12 @@ pub record Step {E : Type 0} (f : ℕ) (p : Past E) (s : ℕ) (c' : BallotLog E)
 -- a step of site s from c that leaves c' and sends these messages keeps the facts, where the packets xs were sent before
 abbrev pub Keeps : {E : Type 0} → ℕ → ℕ → List (Sent E) → BallotLog E → BallotLog E → List (ℕ × BallotMessage E) → Type 0
 Keeps {E} f s xs c c' ms =
-    (at : ℕ → BallotLog E) (sent : List (Sent E)) → at s ≡ c → Holds f at sent → ((x : Sent E) → In x xs → In x sent) → Holds f (put at s c') (sent ++ sent_by s ms)
+    (at : ℕ → BallotLog E) (sent : List (Sent E)) → at s ≡ c → Holds f at sent → ((x : Sent E) → In x xs → In x sent)
+        → Holds f (put at s c') (sent ++ sent_by s ms)
 
 module _ {E : Type 0} (f s : ℕ) (xs : List (Sent E)) where
-  pub by_step : (c c' : BallotLog E) (ms : List (ℕ × BallotMessage E)) → ((p : Past E) → HistoryOk f p → SiteOk f p s c → ((x : Sent E) → In x xs → SentOk f p x) → Step f p s c' ms) → Keeps f s xs c c' ms
+  pub by_step : (c c' : BallotLog E) (ms : List (ℕ × BallotMessage E))
+      → ((p : Past E) → HistoryOk f p → SiteOk f p s c → ((x : Sent E) → In x xs → SentOk f p x) → Step f p s c' ms) → Keeps f s xs c c' ms
   by_step c c' ms step at sent e h given =
       let r = step h.past h.facts.history (subst (SiteOk f h.past s) e (h.facts.site s)) (λ x i. h.facts.sent x (given x i)) in
       record {
@@ -49,11 +52,13 @@ module _ {E : Type 0} (f s : ℕ) (xs : List (Sent E)) where
       }
 
   -- one after another
-  pub and_then : (c c1 c2 : BallotLog E) (ms1 ms2 : List (ℕ × BallotMessage E)) → Keeps f s xs c c1 ms1 → Keeps f s xs c1 c2 ms2 → Keeps f s xs c c2 (ms1 ++ ms2)
+  pub and_then : (c c1 c2 : BallotLog E) (ms1 ms2 : List (ℕ × BallotMessage E)) → Keeps f s xs c c1 ms1 → Keeps f s xs c1 c2 ms2
+      → Keeps f s xs c c2 (ms1 ++ ms2)
   and_then c c1 c2 ms1 ms2 first second at sent e h given =
       let h1 = first at sent e h given in
       let h2 = second (put at s c1) (sent ++ sent_by s ms1) (put_same at s c1) h1 (λ x i. in_front x sent (sent_by s ms1) (given x i)) in
-      let joined : (sent ++ sent_by s ms1) ++ sent_by s ms2 ≡ sent ++ sent_by s (ms1 ++ ms2) = append_assoc sent (sent_by s ms1) (sent_by s ms2) ∙ ap (λ l. sent ++ l) (sym (sent_both s ms1 ms2)) in
+      let joined : (sent ++ sent_by s ms1) ++ sent_by s ms2 ≡ sent ++ sent_by s (ms1 ++ ms2) =
+          append_assoc sent (sent_by s ms1) (sent_by s ms2) ∙ ap (λ l. sent ++ l) (sym (sent_both s ms1 ms2)) in
       let P : List (Sent E) → Type 0 = λ l. Holds f (put at s c2) l in
       let Q : (ℕ → BallotLog E) → Type 0 = λ g. Holds f g ((sent ++ sent_by s ms1) ++ sent_by s ms2) in
       subst P joined (subst Q (put_put at s c1 c2) h2)
@@ -64,7 +69,8 @@ module _ {E : Type 0} (f s : ℕ) (xs : List (Sent E)) where
 
 module _ {E : Type 0} (f s : ℕ) (here : In s (sites f)) where
   -- SENDS: to every other site
-  pub to_others_ok : (p' : Past E) (d : BallotLog E) → d.f ≡ f → d.site ≡ s → (m : BallotMessage E) → MessageOk f p' s m → (x : ℕ × BallotMessage E) → In x (to_others d m) → SentOk f p' (record { from = s; to = x.0; message = x.1 })
+  pub to_others_ok : (p' : Past E) (d : BallotLog E) → d.f ≡ f → d.site ≡ s → (m : BallotMessage E) → MessageOk f p' s m → (x : ℕ × BallotMessage E)
+      → In x (to_others d m) → SentOk f p' (record { from = s; to = x.0; message = x.1 })
   to_others_ok p' d ef es m ok x i =
       let r = in_mapped (λ j. (j, m)) x (others d) i in
       let k = in_filter (λ j. not (j == d.site)) r.0 (sites d.f) r.1 in
@@ -73,7 +79,8 @@ module _ {E : Type 0} (f s : ℕ) (here : In s (sites f)) where
       subst P r.2 (record { here = here; apart = apart; message = ok })
 
   -- to one
-  pub to_one_ok : (p' : Past E) (to : ℕ) (m : BallotMessage E) → (to ≡ s → ⊥) → MessageOk f p' s m → (x : ℕ × BallotMessage E) → In x ((to, m) ∷ []) → SentOk f p' (record { from = s; to = x.0; message = x.1 })
+  pub to_one_ok : (p' : Past E) (to : ℕ) (m : BallotMessage E) → (to ≡ s → ⊥) → MessageOk f p' s m → (x : ℕ × BallotMessage E) → In x ((to, m) ∷ [])
+      → SentOk f p' (record { from = s; to = x.0; message = x.1 })
   to_one_ok p' to m apart ok x (inl e) =
       let P : ℕ × BallotMessage E → Type 0 = λ y. SentOk f p' (record { from = s; to = y.0; message = y.1 }) in
       subst P e (record { here = here; apart = λ q. apart (sym q); message = ok })
@@ -81,7 +88,8 @@ module _ {E : Type 0} (f s : ℕ) (here : In s (sites f)) where
 
 module _ {E : Type 0} (f : ℕ) (p : Past E) (hist : HistoryOk f p) (s : ℕ) (here : In s (sites f)) (c : BallotLog E) (g : SiteOk f p s c) where
   -- a site that sends alone
-  pub sends_alone : (ms : List (ℕ × BallotMessage E)) → ((m : ℕ × BallotMessage E) → In m ms → SentOk f p (record { from = s; to = m.0; message = m.1 })) → Step f p s c ms
+  pub sends_alone : (ms : List (ℕ × BallotMessage E))
+      → ((m : ℕ × BallotMessage E) → In m ms → SentOk f p (record { from = s; to = m.0; message = m.1 })) → Step f p s c ms
   sends_alone ms ok = record { past = p; owes = owes_nothing f p s; history = hist; site = g; sends = ok }
 
   -- A GREATER BALLOT: the site has come up to it
@@ -127,7 +135,9 @@ module _ {E : Type 0} (f : ℕ) (p : Past E) (hist : HistoryOk f p) (s : ℕ) (h
     here = subst (λ y. In y (sites f)) (sym e) here;
   }
 
-  pub revow : (b : ℕ) (r : Role E) (ms : List (ℕ × BallotMessage E)) → c.ballot ≤ b → RoleOk f (raised_past b) s (record c { ballot = b; role = r }) r → ((m : ℕ × BallotMessage E) → In m ms → SentOk f (raised_past b) (record { from = s; to = m.0; message = m.1 })) → Step f p s (record c { ballot = b; role = r }) ms
+  pub revow : (b : ℕ) (r : Role E) (ms : List (ℕ × BallotMessage E)) → c.ballot ≤ b → RoleOk f (raised_past b) s (record c { ballot = b; role = r }) r
+      → ((m : ℕ × BallotMessage E) → In m ms → SentOk f (raised_past b) (record { from = s; to = m.0; message = m.1 }))
+      → Step f p s (record c { ballot = b; role = r }) ms
   unfolding raised_past
   revow b r ms le role sends = record {
     past = raised_past b;
@@ -153,6 +163,8 @@ module _ {E : Type 0} (f : ℕ) (p : Past E) (hist : HistoryOk f p) (s : ℕ) (h
     past = p;
     owes = owes_nothing f p s;
     history = hist;
-    site = record { f_is = g.f_is; site_is = g.site_is; reached = g.reached; acc = g.acc; log = g.log; chosen = g.chosen; role = role; owned = g.owned; acks = g.acks };
+    site =
+        record { f_is = g.f_is; site_is = g.site_is; reached = g.reached; acc = g.acc; log = g.log; chosen = g.chosen; role = role; owned = g.owned;
+        acks = g.acks };
     sends = λ m i. absurd i;
   }

@@ -1,5 +1,6 @@
 -- The facts that every event keeps.
-use Rattle.std.proofs.Common.{◌≡◌, ◌⊎◌, inl, inr, ⊎_elim, ℕ, ◌+◌, ◌<◌, ◌≤◌, ◌^◌, List, [], ◌∷◌, ◌++◌, length, append-nil, append_assoc, Bool, true, false, refl, sym, ap, ◌∙◌, subst, cond, true≢false}
+use Rattle.std.proofs.Common.{◌≡◌, ◌⊎◌, inl, inr, ⊎_elim, ℕ, ◌+◌, ◌<◌, ◌≤◌, ◌^◌, List, [], ◌∷◌, ◌++◌, length, append-nil, append_assoc, Bool, true}
+use Rattle.std.proofs.Common.{false, refl, sym, ap, ◌∙◌, subst, cond, true≢false}
 use Rattle.std.specs.Prelude.{Some, Option}
 use Rattle.us_kind.specs.Words.{In, tid_eq}
 use Rattle.us_kind.specs.declared.identity.Tid.{Tid}
@@ -41,7 +42,8 @@ pub ops_of-append : (tid : Tid) (xs ys : List Performed) → ops_of tid (xs ++ y
 ops_of-append tid [] ys = refl
 ops_of-append tid (x ∷ xs) ys = on (tid_eq x.tid tid) (ops_of-append tid xs ys)
   where
-    on : (b : Bool) → ops_of tid (xs ++ ys) ≡ ops_of tid xs ++ ops_of tid ys → cond b (x.done ∷ ops_of tid (xs ++ ys)) (ops_of tid (xs ++ ys)) ≡ cond b (x.done ∷ ops_of tid xs) (ops_of tid xs) ++ ops_of tid ys
+    on : (b : Bool) → ops_of tid (xs ++ ys) ≡ ops_of tid xs ++ ops_of tid ys
+        → cond b (x.done ∷ ops_of tid (xs ++ ys)) (ops_of tid (xs ++ ys)) ≡ cond b (x.done ∷ ops_of tid xs) (ops_of tid xs) ++ ops_of tid ys
     on true e = ap (λ l. x.done ∷ l) e
     on false e = e
 
@@ -75,11 +77,15 @@ abbrev pub AllTrue : Spaces → Partition → Tid → List ℕ → List Done →
 AllTrue spaces p tid snapshot before [] = Unit {0}
 AllTrue spaces p tid snapshot before (a ∷ rest) = IsTrueAnswer spaces p tid snapshot before a × AllTrue spaces p tid snapshot (before ++ a ∷ []) rest
 
-pub AllTrue-push : (spaces : Spaces) (p : Partition) (tid : Tid) (sn : List ℕ) (before as' : List Done) (a : Done) → AllTrue spaces p tid sn before as' → IsTrueAnswer spaces p tid sn (before ++ as') a → AllTrue spaces p tid sn before (as' ++ a ∷ [])
+pub AllTrue-push : (spaces : Spaces) (p : Partition) (tid : Tid) (sn : List ℕ) (before as' : List Done) (a : Done)
+    → AllTrue spaces p tid sn before as' → IsTrueAnswer spaces p tid sn (before ++ as') a → AllTrue spaces p tid sn before (as' ++ a ∷ [])
 AllTrue-push spaces p tid sn before [] a h t = (subst (λ l. IsTrueAnswer spaces p tid sn l a) (append-nil before) t, tt)
-AllTrue-push spaces p tid sn before (x ∷ as') a h t = (h.0, AllTrue-push spaces p tid sn (before ++ x ∷ []) as' a h.1 (subst (λ l. IsTrueAnswer spaces p tid sn l a) (sym (append_assoc before (x ∷ []) as')) t))
+AllTrue-push spaces p tid sn before (x ∷ as') a h t =
+    (h.0, AllTrue-push spaces p tid sn (before ++ x ∷ []) as' a h.1
+    (subst (λ l. IsTrueAnswer spaces p tid sn l a) (sym (append_assoc before (x ∷ []) as')) t))
 
-pub AllTrue-fits : (spaces : Spaces) (p : Partition) (tid : Tid) (sn : List ℕ) (before as' : List Done) → AllTrue spaces p tid sn before as' → AllFits spaces as'
+pub AllTrue-fits : (spaces : Spaces) (p : Partition) (tid : Tid) (sn : List ℕ) (before as' : List Done) → AllTrue spaces p tid sn before as'
+    → AllFits spaces as'
 AllTrue-fits spaces p tid sn before [] h = tt
 AllTrue-fits spaces p tid sn before (x ∷ as') h = (h.0.fits, AllTrue-fits spaces p tid sn (before ++ x ∷ []) as' h.1)
 
@@ -93,7 +99,8 @@ pub record AnswersGet (spaces : Spaces) (p : Partition) (ms : List Message) (tid
   pub own : List (ℕ × Effect)
   pub asked : In (message.Get tid place at snapshot item op own) ms
   pub is_known : at_most snapshot (known me p) ≡ true
-  pub is : f ≡ form_for (answered op (state_at spaces p.log tid snapshot item own)) (prepared_effect (record { tid = tid; place = place }) op (state_at spaces p.log tid snapshot item own))
+  pub is : f ≡ form_for (answered op (state_at spaces p.log tid snapshot item own))
+      (prepared_effect (record { tid = tid; place = place }) op (state_at spaces p.log tid snapshot item own))
 
 pub record StillPrepared (qs : List PreparedTx) (tid : Tid) (ts : ℕ) : Type 0 where
   pub entry_of : PreparedTx
@@ -194,11 +201,13 @@ SameKey-sym (message.Prepared t n) (message.Prepared t' n') k = sym k
 SameKey-sym _ _ k = absurd k
 
 -- one more message, of a key that was not there
-pub once_push : (ms : List Message) (y : Message) → ((m m' : Message) → In m ms → In m' ms → SameKey m m' → m ≡ m') → ((m : Message) → In m ms → SameKey m y → ⊥) → (m m' : Message) → In m (ms ++ y ∷ []) → In m' (ms ++ y ∷ []) → SameKey m m' → m ≡ m'
+pub once_push : (ms : List Message) (y : Message) → ((m m' : Message) → In m ms → In m' ms → SameKey m m' → m ≡ m')
+    → ((m : Message) → In m ms → SameKey m y → ⊥) → (m m' : Message) → In m (ms ++ y ∷ []) → In m' (ms ++ y ∷ []) → SameKey m m' → m ≡ m'
 once_push ms y old new m m' i j k =
     ⊎_elim
     (λ (a : In m ms). ⊎_elim (λ (b : In m' ms). old m m' a b k) (λ (e : y ≡ m'). absurd (new m a (subst (SameKey m) (sym e) k))) (in_split m' ms y j))
-    (λ (d : y ≡ m). ⊎_elim (λ (b : In m' ms). absurd (new m' b (SameKey-sym y m' (subst (λ x. SameKey x m') (sym d) k)))) (λ (e : y ≡ m'). sym d ∙ e) (in_split m' ms y j))
+    (λ (d : y ≡ m). ⊎_elim (λ (b : In m' ms). absurd (new m' b (SameKey-sym y m' (subst (λ x. SameKey x m') (sym d) k)))) (λ (e : y ≡ m'). sym d ∙ e)
+        (in_split m' ms y j))
     (in_split m ms y i)
 
 pub record BegunForm (last : ℕ) (b : Begun) : Type 0 where
@@ -219,11 +228,14 @@ pub record HistoryFacts (last : ℕ) (h : History) : Type 0 where
   pub begun_apart : AllLater (λ (b c : Begun). b.tid ≡ c.tid → ⊥) h.begun
   pub begun_form : (b : Begun) → In b h.begun → BegunForm last b
   pub performed : (q : Performed) → In q h.performed → OfBegun h.begun q.tid
-  pub order : (c : Committed) (b : Begun) → In c h.committed → In b h.begun → c.begun.session ≡ b.session → c.begun.tid.seq < b.tid.seq → at_most c.vector b.snapshot ≡ true
+  pub order : (c : Committed) (b : Begun) → In c h.committed → In b h.begun → c.begun.session ≡ b.session → c.begun.tid.seq < b.tid.seq
+      → at_most c.vector b.snapshot ≡ true
   pub apart : AllLater (λ (c d : Committed). c.begun.tid ≡ d.begun.tid → ⊥) h.committed
   pub decided_once : (c d : Committed) → In c h.committed → In d h.committed → c.begun.tid ≡ d.begun.tid → c ≡ d
-  pub numbers : (c d : Committed) → In c h.committed → In d h.committed → c.begun.session ≡ d.begun.session → c.begun.tid.seq < d.begun.tid.seq → c.number < d.number
-  pub stands : (c d : Committed) → In c h.committed → In d h.committed → c.begun.session ≡ d.begun.session → c.begun.tid.seq < d.begun.tid.seq → StandsEarlier c d h.committed
+  pub numbers : (c d : Committed) → In c h.committed → In d h.committed → c.begun.session ≡ d.begun.session → c.begun.tid.seq < d.begun.tid.seq
+      → c.number < d.number
+  pub stands : (c d : Committed) → In c h.committed → In d h.committed → c.begun.session ≡ d.begun.session → c.begun.tid.seq < d.begun.tid.seq
+      → StandsEarlier c d h.committed
 
 pub record SharedFacts (l : Ledger) : Type 0 where
   pub told : HistoryFacts l.seq l.history
@@ -233,7 +245,8 @@ pub record SharedFacts (l : Ledger) : Type 0 where
 
 abbrev pub Waits : Ledger → Transaction → Waiting → Type 0
 Waits l t waits.Nothing = Unit {0}
-Waits l t (waits.Version at place item op) = (place ≡ length t.ops + 1) × In (message.Get t.tid place at t.snapshot item op (own_effects item t.writes)) l.messages
+Waits l t (waits.Version at place item op) =
+    (place ≡ length t.ops + 1) × In (message.Get t.tid place at t.snapshot item op (own_effects item t.writes)) l.messages
 Waits l t (waits.Prepared at missing told) = HasWrites t.writes × (missing ≡ 1 ∷ []) × (told ≡ []) × In (message.Prepare t.tid t.snapshot t.writes) l.messages
 
 abbrev pub WaitsForPrepared : Waiting → Type 0
@@ -256,7 +269,8 @@ pub record RunningFacts (spaces : Spaces) (log : List LogTx) (l : Ledger) (n las
   pub waiting : Waits l t w
 
 -- a session, and the last of its frames that was performed: those that wait came later
-pub record SessionFacts (spaces : Spaces) (log : List LogTx) (l : Ledger) (n : ℕ) (past : List ℕ) (running : Option Transaction) (w : Waiting) (asks : List Ask) (asked : ℕ) : Type 0 where
+pub record SessionFacts (spaces : Spaces) (log : List LogTx) (l : Ledger) (n : ℕ) (past : List ℕ) (running : Option Transaction) (w : Waiting)
+    (asks : List Ask) (asked : ℕ) : Type 0 where
   pub covered : (c : Committed) → In c l.history.committed → c.begun.session ≡ name n → at_most c.vector past ≡ true
   pub small : entry past 1 ≤ 2 ^ 62
   pub last : ℕ
@@ -310,7 +324,9 @@ grows_further {n} {a} {b} {c} g h = record {
   begun = goes_further g.begun h.begun;
   begins = in_append _ g.begun.rest h.begun.rest g.begins h.begins;
   performed = goes_further g.performed h.performed;
-  performs = in_append _ g.performed.rest h.performed.rest (λ q i. of_session-later b.history.begun c.history.begun n q.tid h.begun (g.performs q i)) h.performs;
+  performs =
+      in_append _ g.performed.rest h.performed.rest (λ q i. of_session-later b.history.begun c.history.begun n q.tid h.begun (g.performs q i))
+      h.performs;
   committed = goes_further g.committed h.committed;
   decides = in_append _ g.committed.rest h.committed.rest g.decides h.decides;
 }
@@ -335,7 +351,8 @@ waits-later l l' t (waits.Prepared at missing told) g h = (h.0, h.1, h.2, in_lat
 -- THE FRAME: what another session does leaves a session's facts
 
 -- what is of one session isn't of another
-pub apart_of : (last : ℕ) (h : History) (n m : ℕ) (tid : Tid) (b : Begun) → HistoryFacts last h → OfSession h.begun n tid → In b h.begun → b.tid ≡ tid → b.session ≡ name m → n ≡ m
+pub apart_of : (last : ℕ) (h : History) (n m : ℕ) (tid : Tid) (b : Begun) → HistoryFacts last h → OfSession h.begun n tid → In b h.begun → b.tid ≡ tid
+    → b.session ≡ name m → n ≡ m
 apart_of last h n m tid b all o i e f =
     let same = all.begun_once o.by b o.here i (o.tid_is ∙ sym e) in
     ap (λ (s : SessionName). s.number) (sym o.session_is ∙ ap (λ (x : Begun). x.session) same ∙ f)
@@ -343,21 +360,30 @@ apart_of last h n m tid b all o i e f =
 name-one : (n m : ℕ) (s : SessionName) → s ≡ name n → s ≡ name m → n ≡ m
 name-one n m s e f = ap (λ (x : SessionName). x.number) (sym e ∙ f)
 
-running_frame : (spaces : Spaces) (log : List LogTx) (n m last : ℕ) (l l' : Ledger) (w : Waiting) (t : Transaction) → SharedFacts l' → Grows n l l' → (n ≡ m → ⊥) → RunningFacts spaces log l m last w t → RunningFacts spaces log l' m last w t
+running_frame : (spaces : Spaces) (log : List LogTx) (n m last : ℕ) (l l' : Ledger) (w : Waiting) (t : Transaction) → SharedFacts l' → Grows n l l'
+    → (n ≡ m → ⊥) → RunningFacts spaces log l m last w t → RunningFacts spaces log l' m last w t
 running_frame spaces log n m last l l' w t all g apart h =
     let mine = in_later _ g.begun h.begun in
     record {
       begun = mine;
-      ops = h.ops ∙ sym (ops_of-still t.tid l.history.performed l'.history.performed g.performed (λ q i e. apart (apart_of l'.seq l'.history n m q.tid (begun_as m t) all.told (g.performs q i) mine (sym e) refl)));
+      ops =
+          h.ops ∙ sym (ops_of-still t.tid l.history.performed l'.history.performed g.performed
+          (λ q i e. apart (apart_of l'.seq l'.history n m q.tid (begun_as m t) all.told (g.performs q i) mine (sym e) refl)));
       writes = h.writes;
       after = λ c i e. ⊎_elim (λ j. h.after c j e) (λ j. absurd (apart (name-one n m _ (g.decides c j) e))) (in_grown c g.committed i);
       latest = λ b i e. ⊎_elim (λ j. h.latest b j e) (λ j. absurd (apart (name-one n m _ (g.begins b j) e))) (in_grown b g.begun i);
-      gets = λ place at sn i o own j. ⊎_elim (λ k. h.gets place at sn i o own k) (λ k. absurd (apart (apart_of l'.seq l'.history n m t.tid (begun_as m t) all.told (g.sent _ k) mine refl refl))) (in_grown _ g.messages j);
-      prepares = λ sn ws j. ⊎_elim (λ k. h.prepares sn ws k) (λ k. absurd (apart (apart_of l'.seq l'.history n m t.tid (begun_as m t) all.told (g.sent _ k) mine refl refl))) (in_grown _ g.messages j);
+      gets =
+          λ place at sn i o own j. ⊎_elim (λ k. h.gets place at sn i o own k)
+          (λ k. absurd (apart (apart_of l'.seq l'.history n m t.tid (begun_as m t) all.told (g.sent _ k) mine refl refl))) (in_grown _ g.messages j);
+      prepares =
+          λ sn ws j. ⊎_elim (λ k. h.prepares sn ws k) (λ k. absurd
+          (apart (apart_of l'.seq l'.history n m t.tid (begun_as m t) all.told (g.sent _ k) mine refl refl))) (in_grown _ g.messages j);
       waiting = waits-later l l' t w g.messages h.waiting;
     }
 
-pub session_frame : (spaces : Spaces) (log : List LogTx) (n m : ℕ) (l l' : Ledger) (past : List ℕ) (running : Option Transaction) (w : Waiting) (asks : List Ask) (asked : ℕ) → SharedFacts l' → Grows n l l' → (n ≡ m → ⊥) → SessionFacts spaces log l m past running w asks asked → SessionFacts spaces log l' m past running w asks asked
+pub session_frame : (spaces : Spaces) (log : List LogTx) (n m : ℕ) (l l' : Ledger) (past : List ℕ) (running : Option Transaction) (w : Waiting)
+    (asks : List Ask) (asked : ℕ) → SharedFacts l' → Grows n l l' → (n ≡ m → ⊥) → SessionFacts spaces log l m past running w asks asked
+    → SessionFacts spaces log l' m past running w asks asked
 session_frame spaces log n m l l' past running w asks asked all g apart h = record {
   covered = λ c i e. ⊎_elim (λ j. h.covered c j e) (λ j. absurd (apart (name-one n m _ (g.decides c j) e))) (in_grown c g.committed i);
   small = h.small;

@@ -56,13 +56,16 @@ pub record Stands (b : Ledger) (p : Partition) (l : Ledger) (d : Desk) : Type 0 
   pub messages : l.messages ≡ b.messages ++ messages_of d.out.packets
   pub history : l.history ≡ noted_all b.history d.out.notes
 
-pub stands_packets : (b : Ledger) (p : Partition) (l : Ledger) (d : Desk) (ps : List Packet) → Stands b p l d → Stands b p (with_messages l (messages_of ps)) (with_packets d ps)
+pub stands_packets : (b : Ledger) (p : Partition) (l : Ledger) (d : Desk) (ps : List Packet) → Stands b p l d
+    → Stands b p (with_messages l (messages_of ps)) (with_packets d ps)
 stands_packets b p l d ps h = record {
   actor = h.actor;
   one = h.one;
   base = h.base;
   seq = h.seq;
-  messages = ap (λ ms. ms ++ messages_of ps) h.messages ∙ append_assoc b.messages (messages_of d.out.packets) (messages_of ps) ∙ ap (λ ms. b.messages ++ ms) (sym (messages_of-append d.out.packets ps));
+  messages =
+      ap (λ ms. ms ++ messages_of ps) h.messages ∙ append_assoc b.messages (messages_of d.out.packets) (messages_of ps) ∙ ap (λ ms. b.messages ++ ms)
+      (sym (messages_of-append d.out.packets ps));
   history = h.history;
 }
 

@@ -10,7 +10,8 @@ use Rattle.us_model.specs.declared.coordinator.Transaction.{Transaction}
 use Rattle.us_model.specs.declared.coordinator.Waiting.TheVariants as waits
 use Rattle.us_model.specs.declared.coordinator.Session.{Session}
 use Rattle.us_model.specs.declared.coordinator.Desk.{Desk}
-use Rattle.us_model.specs.Sessions.{Acted, with_packets, to_partition, home, is_kept_by, writes_on, is_written, partitions_written, prepares, commits, sent_out, ended, decided}
+use Rattle.us_model.specs.Sessions.{Acted, with_packets, to_partition, home, is_kept_by, writes_on, is_written, partitions_written, prepares, commits}
+use Rattle.us_model.specs.Sessions.{sent_out, ended, decided}
 use Rattle.us_snapshots.proofs.Acts.{HasWrites}
 
 placed_one : (space : ℕ) (id : List ℕ) → place_of 1 space id ≡ 1
@@ -25,7 +26,8 @@ kept_by_one shape w one = ap (λ n. n == 1) (home_one shape w.item one)
 -- all writes are there
 writes_on_one : (shape : Shape) (ws : List Write) → shape.parts ≡ 1 → writes_on shape 1 ws ≡ ws
 writes_on_one shape [] one = refl
-writes_on_one shape (w ∷ ws) one = ap (λ b. cond b (w ∷ writes_on shape 1 ws) (writes_on shape 1 ws)) (kept_by_one shape w one) ∙ ap (λ xs. w ∷ xs) (writes_on_one shape ws one)
+writes_on_one shape (w ∷ ws) one =
+    ap (λ b. cond b (w ∷ writes_on shape 1 ws) (writes_on shape 1 ws)) (kept_by_one shape w one) ∙ ap (λ xs. w ∷ xs) (writes_on_one shape ws one)
 
 written_one : (shape : Shape) (ws : List Write) → shape.parts ≡ 1 → HasWrites ws → is_written shape ws 1 ≡ true
 written_one shape [] one has = absurd has
@@ -49,9 +51,11 @@ sent_out_one d s at tx one has =
     let parts = partitions_one d.shape tx.writes one has in
     let writes = writes_on_one d.shape tx.writes one in
     (λ i. record { desk = with_packets d (prepares d tx (parts i)); session = record s { waits = waits.Prepared at (parts i) [] } })
-    ∙ (λ i. record { desk = with_packets d (to_partition d 1 (message.Prepare tx.tid tx.snapshot (writes i)) ∷ []); session = record s { waits = waits.Prepared at (1 ∷ []) [] } })
+    ∙ (λ i. record { desk = with_packets d (to_partition d 1 (message.Prepare tx.tid tx.snapshot (writes i)) ∷ []);
+        session = record s { waits = waits.Prepared at (1 ∷ []) [] } })
 
 -- PREPARED: it is told the decision
 pub decided_at_one : (d : Desk) (s : Session) (at : ℕ) (tx : Transaction) (vector : List ℕ) → d.shape.parts ≡ 1 → HasWrites tx.writes
     → decided d s at tx vector ≡ ended (with_packets d (to_partition d 1 (message.Commit tx.tid vector) ∷ [])) s at tx vector
-decided_at_one d s at tx vector one has = ap (λ parts. ended (with_packets d (commits d tx.tid vector parts)) s at tx vector) (partitions_one d.shape tx.writes one has)
+decided_at_one d s at tx vector one has =
+    ap (λ parts. ended (with_packets d (commits d tx.tid vector parts)) s at tx vector) (partitions_one d.shape tx.writes one has)

@@ -1,5 +1,6 @@
 -- What no step of the partition takes back.
-use Rattle.std.proofs.Common.{◌≡◌, inl, inr, ⊎_elim, ◌⊎◌, ℕ, zero, suc, ◌<◌, ◌≤◌, ◌^◌, List, [], ◌∷◌, ◌++◌, append-nil, Bool, true, false, refl, sym, ap, ◌∙◌, subst, arith, cond}
+use Rattle.std.proofs.Common.{◌≡◌, inl, inr, ⊎_elim, ◌⊎◌, ℕ, zero, suc, ◌<◌, ◌≤◌, ◌^◌, List, [], ◌∷◌, ◌++◌, append-nil, Bool, true, false, refl, sym}
+use Rattle.std.proofs.Common.{ap, ◌∙◌, subst, arith, cond}
 use Rattle.std.specs.Prelude.{Some, None, Option, nat_le, slice_get, remove, position}
 use Rattle.std.proofs.lemmas.Bool.{cond_both, leb-true}
 use Rattle.std.proofs.lemmas.List.Quantifiers.{position-Some}
@@ -90,21 +91,32 @@ pub later_same : (p p' : Partition) → horizon p ≤ horizon p' → p'.log ≡ 
 later_same p p' k e g = record { knows = k; log = record { rest = []; is = e ∙ sym (append-nil p.log) }; new = λ _ i. absurd i; got = g }
 
 pub later_further : {p q r : Partition} → Later p q → Later q r → Later p r
-later_further g h = record { knows = omega arith; log = goes_further g.log h.log; new = in_append _ g.log.rest h.log.rest g.new (λ e i. omega (arith, h.new e i)); got = h.got ∙ g.got }
+later_further g h =
+    record { knows = omega arith; log = goes_further g.log h.log; new = in_append _ g.log.rest h.log.rest g.new (λ e i. omega (arith, h.new e i));
+    got = h.got ∙ g.got }
 
 -- GET
 pub get_keeps : (p : Partition) (g : Get) → entry g.snapshot 1 ≤ 2 ^ 62 → PartitionOk p → PartitionOk (get me p g)
-get_keeps p g small h = record { once = h.once; below_clock = λ q i. omega (arith, h.below_clock q i); positive = h.positive; small = omega (arith, h.small); got = h.got }
+get_keeps p g small h =
+    record { once = h.once; below_clock = λ q i. omega (arith, h.below_clock q i); positive = h.positive; small = omega (arith, h.small);
+    got = h.got }
 
 pub get_later : (p : Partition) (g : Get) → PartitionOk p → Later p (get me p g)
-get_later p g h = later_same _ _ (own_known-above _ _ p.prepared (omega (arith, own_known-clock p.clock p.prepared h.below_clock)) (λ q i. own_known-below _ _ q i (h.positive q i))) refl refl
+get_later p g h =
+    later_same _ _ (own_known-above _ _ p.prepared (omega (arith, own_known-clock p.clock p.prepared h.below_clock))
+    (λ q i. own_known-below _ _ q i (h.positive q i))) refl refl
 
 -- PREPARE
-prepared_once : (done : List Tid) (log : List LogTx) (prepared : List PreparedTx) (q : PreparedTx) → (In q.tid done → ⊥) → EachOnce done log prepared → EachOnce (done ++ q.tid ∷ []) log (prepared ++ q ∷ [])
+prepared_once : (done : List Tid) (log : List LogTx) (prepared : List PreparedTx) (q : PreparedTx) → (In q.tid done → ⊥) → EachOnce done log prepared
+    → EachOnce (done ++ q.tid ∷ []) log (prepared ++ q ∷ [])
 prepared_once done log prepared q new h = record {
-  prepared_done = in_push (λ (r : PreparedTx). In r.tid (done ++ q.tid ∷ [])) prepared q (λ r i. in_front r.tid done (q.tid ∷ []) (h.prepared_done r i)) (in_last done q.tid);
+  prepared_done =
+      in_push (λ (r : PreparedTx). In r.tid (done ++ q.tid ∷ [])) prepared q (λ r i. in_front r.tid done (q.tid ∷ []) (h.prepared_done r i))
+      (in_last done q.tid);
   log_done = λ e i. in_front e.tid done (q.tid ∷ []) (h.log_done e i);
-  prepared_apart = later_push (λ (x y : PreparedTx). x.tid ≡ y.tid → ⊥) prepared q h.prepared_apart (λ r i e. new (subst (λ t. In t done) e (h.prepared_done r i)));
+  prepared_apart =
+      later_push (λ (x y : PreparedTx). x.tid ≡ y.tid → ⊥) prepared q h.prepared_apart
+      (λ r i e. new (subst (λ t. In t done) e (h.prepared_done r i)));
   log_apart = h.log_apart;
   apart = λ r e i j same. ⊎_elim
       (λ k. h.apart r e k j same)
@@ -112,7 +124,8 @@ prepared_once done log prepared q new h = record {
       (in_split r prepared q i);
 }
 
-pub prepared_keeps : (p : Partition) (tid : Tid) (snapshot : List ℕ) (writes : List Write) → timestamp_for me p snapshot ≤ 2 ^ 62 → (In tid p.done → ⊥) → PartitionOk p → PartitionOk (prepared me p tid snapshot writes)
+pub prepared_keeps : (p : Partition) (tid : Tid) (snapshot : List ℕ) (writes : List Write) → timestamp_for me p snapshot ≤ 2 ^ 62
+    → (In tid p.done → ⊥) → PartitionOk p → PartitionOk (prepared me p tid snapshot writes)
 prepared_keeps p tid snapshot writes small new h = record {
   once = prepared_once p.done p.log p.prepared (record { tid = tid; ts = timestamp_for me p snapshot; snapshot = snapshot; writes = writes }) new h.once;
   below_clock = in_push (λ q. q.ts ≤ timestamp_for me p snapshot) p.prepared _ (λ q i. omega (arith, h.below_clock q i, next_timestamp-above)) (omega arith);
@@ -125,7 +138,8 @@ pub prepared_later : (p : Partition) (tid : Tid) (snapshot : List ℕ) (writes :
 prepared_later p tid snapshot writes h =
     let c = own_known-clock p.clock p.prepared h.below_clock in
     later_same _ _
-    (own_known-above _ _ _ (omega (arith, next_timestamp-above)) (in_push (λ q. horizon p < q.ts) p.prepared _ (λ q i. own_known-below _ _ q i (h.positive q i)) (omega (arith, next_timestamp-above))))
+    (own_known-above _ _ _ (omega (arith, next_timestamp-above))
+        (in_push (λ q. horizon p < q.ts) p.prepared _ (λ q i. own_known-below _ _ q i (h.positive q i)) (omega (arith, next_timestamp-above))))
     refl refl
 
 -- ONE TAKEN OUT
@@ -150,14 +164,18 @@ later_removed R (x ∷ xs) zero h = h.1
 later_removed R (x ∷ xs) (suc k) h = (all_from (R x) (remove xs k) (λ y i. all_in (R x) xs y h.0 (in_removed xs k y i)), later_removed R xs k h.1)
 
 -- what was taken out is of another transaction than those that are left
-removed_apart : (xs : List PreparedTx) (k : ℕ) (q x : PreparedTx) → slice_get xs k ≡ Some q → AllLater (λ (y z : PreparedTx). y.tid ≡ z.tid → ⊥) xs → In x (remove xs k) → q.tid ≡ x.tid → ⊥
+removed_apart : (xs : List PreparedTx) (k : ℕ) (q x : PreparedTx) → slice_get xs k ≡ Some q → AllLater (λ (y z : PreparedTx). y.tid ≡ z.tid → ⊥) xs
+    → In x (remove xs k) → q.tid ≡ x.tid → ⊥
 removed_apart [] k q x e h i same = absurd (let f = in_got [] k q e in f)
-removed_apart (y ∷ xs) zero q x e h i same = let f : y ≡ q = cc in all_in (λ (z : PreparedTx). y.tid ≡ z.tid → ⊥) xs x h.0 i (ap (λ (z : PreparedTx). z.tid) f ∙ same)
-removed_apart (y ∷ xs) (suc k) q x e h (inl s) same = all_in (λ (z : PreparedTx). y.tid ≡ z.tid → ⊥) xs q h.0 (in_got xs k q e) (ap (λ (z : PreparedTx). z.tid) s ∙ sym same)
+removed_apart (y ∷ xs) zero q x e h i same =
+    let f : y ≡ q = cc in all_in (λ (z : PreparedTx). y.tid ≡ z.tid → ⊥) xs x h.0 i (ap (λ (z : PreparedTx). z.tid) f ∙ same)
+removed_apart (y ∷ xs) (suc k) q x e h (inl s) same =
+    all_in (λ (z : PreparedTx). y.tid ≡ z.tid → ⊥) xs q h.0 (in_got xs k q e) (ap (λ (z : PreparedTx). z.tid) s ∙ sym same)
 removed_apart (y ∷ xs) (suc k) q x e h (inr i) same = removed_apart xs k q x e h.1 i same
 
 -- COMMIT
-committed_once : (done : List Tid) (log : List LogTx) (prepared : List PreparedTx) (i : ℕ) (q : PreparedTx) (new : LogTx) → slice_get prepared i ≡ Some q → new.tid ≡ q.tid → EachOnce done log prepared → EachOnce done (log ++ new ∷ []) (remove prepared i)
+committed_once : (done : List Tid) (log : List LogTx) (prepared : List PreparedTx) (i : ℕ) (q : PreparedTx) (new : LogTx)
+    → slice_get prepared i ≡ Some q → new.tid ≡ q.tid → EachOnce done log prepared → EachOnce done (log ++ new ∷ []) (remove prepared i)
 committed_once done log prepared i q new got same h =
     let here = in_got prepared i q got in
     record {
@@ -171,7 +189,8 @@ committed_once done log prepared i q new got same h =
           (in_split e log new k);
     }
 
-pub committed_keeps : (p : Partition) (v : List ℕ) (i : ℕ) (q : PreparedTx) → entry v 1 ≤ 2 ^ 62 → slice_get p.prepared i ≡ Some q → PartitionOk p → PartitionOk (committed me p v i q)
+pub committed_keeps : (p : Partition) (v : List ℕ) (i : ℕ) (q : PreparedTx) → entry v 1 ≤ 2 ^ 62 → slice_get p.prepared i ≡ Some q → PartitionOk p
+    → PartitionOk (committed me p v i q)
 committed_keeps p v i q small got h = record {
   once = committed_once p.done p.log p.prepared i q (record { tid = q.tid; strong = false; vector = v; writes = q.writes }) got refl h.once;
   below_clock = λ r j. omega (arith, h.below_clock r (in_removed p.prepared i r j));
@@ -180,25 +199,31 @@ committed_keeps p v i q small got h = record {
   got = h.got;
 }
 
-pub committed_later : (p : Partition) (v : List ℕ) (i : ℕ) (q : PreparedTx) → In q p.prepared → q.ts ≤ entry v 1 → PartitionOk p → Later p (committed me p v i q)
+pub committed_later : (p : Partition) (v : List ℕ) (i : ℕ) (q : PreparedTx) → In q p.prepared → q.ts ≤ entry v 1 → PartitionOk p
+    → Later p (committed me p v i q)
 committed_later p v i q here le h =
     let b = own_known-below p.clock p.prepared q here (h.positive q here) in
     record {
-      knows = own_known-above _ _ _ (omega (arith, own_known-clock p.clock p.prepared h.below_clock)) (λ r j. let k = in_removed p.prepared i r j in own_known-below _ _ r k (h.positive r k));
+      knows =
+          own_known-above _ _ _ (omega (arith, own_known-clock p.clock p.prepared h.below_clock))
+          (λ r j. let k = in_removed p.prepared i r j in own_known-below _ _ r k (h.positive r k));
       log = goes_by p.log _;
       new = in_push (λ (e : LogTx). horizon p < entry e.vector 1) [] _ (λ e j. absurd j) (omega arith);
       got = refl;
     }
 
 -- by cases
-pub commit_by : (P : Partition → Type 0) (p : Partition) (tid : Tid) (v : List ℕ) → P p → ((i : ℕ) (q : PreparedTx) → slice_get p.prepared i ≡ Some q → In q p.prepared → is_of tid q ≡ true → q.ts ≤ entry v 1 → P (committed me p v i q)) → P (commit me p tid v)
+pub commit_by : (P : Partition → Type 0) (p : Partition) (tid : Tid) (v : List ℕ) → P p
+    → ((i : ℕ) (q : PreparedTx) → slice_get p.prepared i ≡ Some q → In q p.prepared → is_of tid q ≡ true → q.ts ≤ entry v 1 → P
+    (committed me p v i q)) → P (commit me p tid v)
 commit_by P p tid v same other = at (position (is_of tid) p.prepared) refl
   where
     one : (i : ℕ) → position (is_of tid) p.prepared ≡ Some i → (o : Option PreparedTx) → slice_get p.prepared i ≡ o → P (commit_one me p v i o)
     one i f None e = same
     one i f (Some q) e =
         cond_both (nat_le q.ts (entry v 1)) (committed me p v i q) p P
-        (λ t. other i q e (in_got p.prepared i q e) (ap (is_of tid) (sym (get_or_from_slice_get p.prepared i q q e)) ∙ (position-Some (is_of tid) p.prepared i q f).1) (leb-true q.ts (entry v 1) t))
+        (λ t. other i q e (in_got p.prepared i q e) (ap (is_of tid) (sym (get_or_from_slice_get p.prepared i q q e))
+            ∙ (position-Some (is_of tid) p.prepared i q f).1) (leb-true q.ts (entry v 1) t))
         (λ _. same)
 
     at : (o : Option ℕ) → position (is_of tid) p.prepared ≡ o → P (commit_at me p v o)
@@ -210,16 +235,19 @@ after_log-append : (item : Item) (sn : List ℕ) (xs ys : List LogTx) (s : State
 after_log-append item sn [] ys s = refl
 after_log-append item sn (x ∷ xs) ys s = after_log-append item sn xs ys _
 
-after_log-none : (item : Item) (sn : List ℕ) (xs : List LogTx) (s : State) → ((e : LogTx) → In e xs → at_most e.vector sn ≡ true → ⊥) → after_log item sn s xs ≡ s
+after_log-none : (item : Item) (sn : List ℕ) (xs : List LogTx) (s : State) → ((e : LogTx) → In e xs → at_most e.vector sn ≡ true → ⊥)
+    → after_log item sn s xs ≡ s
 after_log-none item sn [] s none = refl
 after_log-none item sn (x ∷ xs) s none = on (at_most x.vector sn) refl (after_log-none item sn xs s (λ y i. none y (inr i)))
   where
-    on : (b : Bool) → at_most x.vector sn ≡ b → after_log item sn s xs ≡ s → after_log item sn (cond b (after_writes item (sum_of x.vector) x.tid s x.writes) s) xs ≡ s
+    on : (b : Bool) → at_most x.vector sn ≡ b → after_log item sn s xs ≡ s
+        → after_log item sn (cond b (after_writes item (sum_of x.vector) x.tid s x.writes) s) xs ≡ s
     on true e again = absurd (none x (inl refl) e)
     on false e again = again
 
 -- a read at a known snapshot is the same ever after
-pub read_later : (p p' : Partition) (sn : List ℕ) (item : Item) (s : State) → Later p p' → at_most sn (known me p) ≡ true → after_log item sn s p'.log ≡ after_log item sn s p.log
+pub read_later : (p p' : Partition) (sn : List ℕ) (item : Item) (s : State) → Later p p' → at_most sn (known me p) ≡ true
+    → after_log item sn s p'.log ≡ after_log item sn s p.log
 read_later p p' sn item s l kn =
     ap (after_log item sn s) l.log.is
     ∙ after_log-append item sn p.log l.log.rest s

@@ -11,7 +11,8 @@ use Rattle.us_order.specs.Laws.{history_after, EveryRunIsPor, PastsAreDirect, Ex
 use Rattle.us_order.proofs.Numbers.{history_plain}
 use Rattle.us_order.proofs.Snapshots.{every_run_snapshots}
 
-holds_after : (Holds : History → Type 0) → OfSnapshotHistories Holds → (settings : Settings) → HasOnePartition settings → (hs : List Happening) → Holds (history_after settings hs)
+holds_after : (Holds : History → Type 0) → OfSnapshotHistories Holds → (settings : Settings) → HasOnePartition settings → (hs : List Happening)
+    → Holds (history_after settings hs)
 holds_after Holds law settings one hs =
     let snap = every_run_snapshots settings one hs in
     law settings.catalog (conflict settings.conflicts) (history_after settings hs) snap.0 snap.1

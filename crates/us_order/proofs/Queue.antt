@@ -24,6 +24,7 @@ ascends-above low [] high more le h = omega arith
 ascends-above low (a ∷ asks) high more le h = (h.0, ascends-above a.at asks high more le h.1)
 
 -- with one more, whose number is greater than all
-pub ascends-push : (low : ℕ) (asks : List Ask) (high at : ℕ) (r : Request) → high < at → Ascends low asks high → Ascends low (asks ++ record { at = at; request = r } ∷ []) at
+pub ascends-push : (low : ℕ) (asks : List Ask) (high at : ℕ) (r : Request) → high < at → Ascends low asks high
+    → Ascends low (asks ++ record { at = at; request = r } ∷ []) at
 ascends-push low [] high at r less h = (omega arith, omega arith)
 ascends-push low (a ∷ asks) high at r less h = (h.0, ascends-push a.at asks high at r less h.1)

@@ -139,5 +139,6 @@ every_run_snapshots settings one hs =
     let h = run_facts settings one hs (start settings) (start_facts settings one) in
     let l = ledger_of h.shard w.packets w.notes in (
       decided_in settings.catalog h.shard.partition.log l.history.committed,
-      is_snapshot_history settings.catalog h.shard.partition l h.facts.part h.facts.all (history_numbered w.notes) (history_plain w.notes) (conflict settings.conflicts),
+      is_snapshot_history settings.catalog h.shard.partition l h.facts.part h.facts.all (history_numbered w.notes) (history_plain w.notes)
+          (conflict settings.conflicts),
     )
