@@ -1,5 +1,6 @@
 -- What a site does to its ballot log: one definition a rule.
-use Rattle.std.specs.Prelude.{ℕ, ◌+◌, ◌-◌, List, [], ◌∷◌, ◌++◌, length, map, filter, take, drop, max, Bool, false, not, ◌&&◌, ◌==◌, if◌then◌else◌, nat_lt, nat_le, Option, Some, None, slice_set}
+use Rattle.std.specs.Prelude.{ℕ, ◌+◌, ◌-◌, List, [], ◌∷◌, ◌++◌, length, map, filter, take, drop}
+use Rattle.std.specs.Prelude.{max, Bool, false, not, ◌&&◌, ◌==◌, if◌then◌else◌, nat_lt, nat_le, Option, Some, None, slice_set}
 use Rattle.std.specs.List.{flat_map, starts_with}
 use Rattle.us_ballot_model.specs.declared.log.Vow.{Vow}
 use Rattle.us_ballot_model.specs.declared.log.Role.{Role}
@@ -10,7 +11,8 @@ use Rattle.us_ballot_model.specs.declared.message.BallotMessage.TheVariants.{New
 use Rattle.us_ballot_model.specs.declared.message.BallotOut.{BallotOut}
 use Rattle.us_ballot_model.specs.declared.message.Appended.{Appended}
 use Rattle.us_ballot_model.specs.declared.message.Appended.TheVariants.{In, NotLeader, Full}
-use Rattle.us_ballot_model.specs.Ballots.{others, owner, next_ballot, LAST, count, held, WINDOW, own_vow, vowed, best, no_acks, backers, ack_of, most, follows, leads, to_others}
+use Rattle.us_ballot_model.specs.Ballots.{others, owner, next_ballot, LAST, count, held, WINDOW, own_vow}
+use Rattle.us_ballot_model.specs.Ballots.{vowed, best, no_acks, backers, ack_of, most, follows, leads, to_others}
 
 -- a log after a step, and what the step gives
 pub record Stepped (E : Type 0) : Type 0 where
