@@ -23,5 +23,6 @@ AllBuilt-push [] l h b = (b, tt)
 AllBuilt-push (m ∷ ms) l h b = (h.0, AllBuilt-push ms l h.1 b)
 
 -- a line that is performed joins those that are built
-pub joined : (lines : List Numbered) (number : ℕ) (line : Line) → AllBuilt lines → is_performed line ≡ true → AllBuilt (lines ++ record { number = number; line = line } ∷ [])
+pub joined : (lines : List Numbered) (number : ℕ) (line : Line) → AllBuilt lines → is_performed line ≡ true
+    → AllBuilt (lines ++ record { number = number; line = line } ∷ [])
 joined lines number line h p = AllBuilt-push lines (record { number = number; line = line }) h (performed-built line p)

@@ -11,14 +11,16 @@ use Rattle.unistore.specs.declared.status.LimitKind.TheVariants.{Text}
 use Rattle.unistore.specs.declared.status.Reason.{Reason}
 use Rattle.unistore.specs.declared.status.Status.{Status}
 use Rattle.unistore.specs.declared.status.Status.TheVariants.{Done, Words, Input, ReadFault, WriteFault, LinkFault, Memory, Limit}
-use Rattle.unistore.specs.Answers.{SourceState, SinkState, Came, Performs, PassesLimit, RefusesInput, RefusesLength, AnswersForm, is_short, IsRead, IsDone, IsRefusedAt, IsRefusedInput, IfInput, IsLimited, IfLimit}
+use Rattle.unistore.specs.Answers.{SourceState, SinkState, Came, Performs, PassesLimit, RefusesInput, RefusesLength, AnswersForm, is_short, IsRead}
+use Rattle.unistore.specs.Answers.{IsDone, IsRefusedAt, IsRefusedInput, IfInput, IsLimited, IfLimit}
 use Rattle.unistore.specs.Schedule.{schedule_of}
 use Rattle.us_edge.specs.Faults.{Rose}
 
 pub form_is : (form : Form) → form ≡ Replay (is_short form)
 form_is (Replay short) = refl
 
-pub words_only : (form : Option Form) (s t : SourceState) (k l : SinkState) (status : Status) → AnswersForm form s t k l status → form ≡ None → (status ≡ Words) ⊎ (status ≡ WriteFault)
+pub words_only : (form : Option Form) (s t : SourceState) (k l : SinkState) (status : Status) → AnswersForm form s t k l status → form ≡ None
+    → (status ≡ Words) ⊎ (status ≡ WriteFault)
 words_only (Some f) s t k l status h e = absurd (cc)
 words_only None s t k l Done h e = absurd h
 words_only None s t k l Words h e = inl refl
@@ -82,7 +84,8 @@ is_done (Some (Replay short)) s t k l (inl h) = absurd h.refuses
 is_done (Some (Replay short)) s t k l (inr h) = done_of short s t k l h.text (schedule_of h.text) h.came refl h.performs
 
 -- A READ OR A WRITE THAT FAILED
-pub read_failed : (form : Option Form) (s t : SourceState) (k l : SinkState) → AnswersForm form s t k l ReadFault → Rose s.faults t.faults × (l.written ≡ k.written)
+pub read_failed : (form : Option Form) (s t : SourceState) (k l : SinkState) → AnswersForm form s t k l ReadFault
+    → Rose s.faults t.faults × (l.written ≡ k.written)
 read_failed None s t k l h = absurd h
 read_failed (Some (Replay short)) s t k l h = (h.rose, h.silent)
 
@@ -99,7 +102,8 @@ write_failed (Some (Replay short)) s t k l (inl h) = h.refuses.rose
 write_failed (Some (Replay short)) s t k l (inr h) = performs-write short (schedule_of h.text) k l h.performs
 
 -- A REFUSED INPUT
-input_at : (s t : SourceState) (k l : SinkState) (text : List ℕ) (refusal : Refusal) (line : ℕ) (reason : Reason) → Came text s t → IsRefusedAt (schedule_of text) refusal
+input_at : (s t : SourceState) (k l : SinkState) (text : List ℕ) (refusal : Refusal) (line : ℕ) (reason : Reason) → Came text s t
+    → IsRefusedAt (schedule_of text) refusal
     → RefusesInput refusal k l line reason → IsRefusedInput s.left t.left k.written l.written line reason
 input_at s t k l text refusal line reason came at h =
     let a : line ≡ refusal.line = h.same_line in
@@ -112,7 +116,8 @@ input_at s t k l text refusal line reason came at h =
       whole = rw (a, b) h.written;
     }
 
-input_of : (short : Bool) (s t : SourceState) (k l : SinkState) (text : List ℕ) (schedule : Schedule) (line : ℕ) (reason : Reason) → Came text s t → schedule_of text ≡ schedule
+input_of : (short : Bool) (s t : SourceState) (k l : SinkState) (text : List ℕ) (schedule : Schedule) (line : ℕ) (reason : Reason) → Came text s t
+    → schedule_of text ≡ schedule
     → Performs short schedule k l (Input line reason) → IsRefusedInput s.left t.left k.written l.written line reason
 input_of short s t k l text (Refused refusal) line reason came e h =
     input_at s t k l text refusal line reason came (subst (λ (x : Schedule). IsRefusedAt x refusal) (sym e) refl) h
@@ -157,7 +162,8 @@ limit_at s t k l text script refused which line came e h =
       whole = rw (a, b) h.says.written;
     }
 
-limit_of : (short : Bool) (s t : SourceState) (k l : SinkState) (text : List ℕ) (schedule : Schedule) (which : LimitKind) (line : ℕ) → Came text s t → schedule_of text ≡ schedule
+limit_of : (short : Bool) (s t : SourceState) (k l : SinkState) (text : List ℕ) (schedule : Schedule) (which : LimitKind) (line : ℕ) → Came text s t
+    → schedule_of text ≡ schedule
     → Performs short schedule k l (Limit which line) → IsLimited s.left t.left k.written l.written which line
 limit_of short s t k l text (Refused refusal) which line came e h = absurd h
 limit_of short s t k l text (Read script refused) which line came e (inl h) = limit_at s t k l text script refused which line came e h
@@ -165,7 +171,8 @@ limit_of short s t k l text (Read script None) which line came e (inr (inl h)) =
 limit_of short s t k l text (Read script (Some refusal)) which line came e (inr (inl h)) = absurd h.refuses
 limit_of short s t k l text (Read script refused) which line came e (inr (inr h)) = absurd h
 
-limit_length : (s t : SourceState) (k l : SinkState) (which : LimitKind) (line : ℕ) → RefusesLength s t k l (Limit which line) → IsLimited s.left t.left k.written l.written which line
+limit_length : (s t : SourceState) (k l : SinkState) (which : LimitKind) (line : ℕ) → RefusesLength s t k l (Limit which line)
+    → IsLimited s.left t.left k.written l.written which line
 limit_length s t k l which line h =
     let a : which ≡ Text = h.refuses.same_kind in
     let b : line ≡ 0 = h.refuses.same_line in

@@ -32,7 +32,8 @@ not_limit short k l script which line unlimited (inr (inl h)) = h.tells
 not_limit short k l script which line unlimited (inr (inr h)) = h
 
 -- what is performed is the text that the source had left
-of_text : (short : Bool) (s t : SourceState) (k l : SinkState) (status : Status) (form : Option Form) (a : IsAccepted form s.left) → Performed short s t k l status
+of_text : (short : Bool) (s t : SourceState) (k l : SinkState) (status : Status) (form : Option Form) (a : IsAccepted form s.left)
+    → Performed short s t k l status
     → Performs short (Read a.script None) k l status
 of_text short s t k l status form a h =
     let whole : h.text ≡ a.text = given_whole a.text h.text t.left (sym a.told ∙ h.came.given) h.came.end in
@@ -50,7 +51,8 @@ pub done_or_memory : (form : Option Form) (s t : SourceState) (k l : SinkState) 
     → IsAccepted form s.left → (Rose s.faults t.faults → ⊥) → (Rose k.faults l.faults → ⊥) → (status ≡ Done) ⊎ (status ≡ Memory)
 done_or_memory form s t k l Done h a reads writes = inl refl
 done_or_memory form s t k l Memory h a reads writes = inr refl
-done_or_memory form s t k l Words h a reads writes = let none : form ≡ None = no_form form s t k l h in let some = a.asks in absurd (clash form a.form none some)
+done_or_memory form s t k l Words h a reads writes =
+    let none : form ≡ None = no_form form s t k l h in let some = a.asks in absurd (clash form a.form none some)
   where
     clash : (o : Option Form) (f : Form) → o ≡ None → o ≡ Some f → ⊥
     clash o f none some = cc
@@ -58,10 +60,12 @@ done_or_memory form s t k l LinkFault h a reads writes = absurd (not_linked form
 done_or_memory form s t k l ReadFault h a reads writes = absurd (reads (read_failed form s t k l h).0)
 done_or_memory form s t k l WriteFault h a reads writes = absurd (writes (write_failed form s t k l h))
 done_or_memory None s t k l (Input line reason) h a reads writes = absurd h
-done_or_memory (Some (Replay short)) s t k l (Input line reason) (inl h) a reads writes = absurd (not_too_much s t k l (Input line reason) (Some (Replay short)) a h)
+done_or_memory (Some (Replay short)) s t k l (Input line reason) (inl h) a reads writes =
+    absurd (not_too_much s t k l (Input line reason) (Some (Replay short)) a h)
 done_or_memory (Some (Replay short)) s t k l (Input line reason) (inr h) a reads writes =
     absurd (not_input short k l a.script line reason (of_text short s t k l (Input line reason) (Some (Replay short)) a h))
 done_or_memory None s t k l (Limit which line) h a reads writes = absurd h
-done_or_memory (Some (Replay short)) s t k l (Limit which line) (inl h) a reads writes = absurd (not_too_much s t k l (Limit which line) (Some (Replay short)) a h)
+done_or_memory (Some (Replay short)) s t k l (Limit which line) (inl h) a reads writes =
+    absurd (not_too_much s t k l (Limit which line) (Some (Replay short)) a h)
 done_or_memory (Some (Replay short)) s t k l (Limit which line) (inr h) a reads writes =
     absurd (not_limit short k l a.script which line a.unlimited (of_text short s t k l (Limit which line) (Some (Replay short)) a h))

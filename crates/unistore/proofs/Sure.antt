@@ -13,7 +13,8 @@ use Rattle.unistore.specs.declared.status.LimitKind.{LimitKind}
 use Rattle.unistore.specs.declared.status.LimitKind.TheVariants.{Text}
 use Rattle.unistore.specs.declared.status.Status.{Status}
 use Rattle.unistore.specs.declared.status.Status.TheVariants.{Done, Words, Input, ReadFault, WriteFault, LinkFault, Memory, Limit}
-use Rattle.unistore.specs.Answers.{SourceState, SinkState, Came, FailsIn, Performs, Performed, Refuses, Passed, RunsOut, Tells, RefusesLength, AnswersForm, input, status_of_kind, IsStatusOf, IsSure}
+use Rattle.unistore.specs.Answers.{SourceState, SinkState, Came, FailsIn, Performs, Performed, Refuses, Passed, RunsOut, Tells, RefusesLength}
+use Rattle.unistore.specs.Answers.{AnswersForm, input, status_of_kind, IsStatusOf, IsSure}
 use Rattle.unistore.specs.Schedule.{schedule_of}
 
 pub given_whole : (bytes text : List ℕ) (after : Option (List ℕ)) → Some bytes ≡ prepended text after → IsAtEnd after → text ≡ bytes
@@ -39,8 +40,10 @@ map_left f (inl a) = inl (f a)
 map_left f (inr c) = inr c
 
 -- WHAT IS WRITTEN
-refuses : (refusal : Refusal) (k l : SinkState) (status : Status) → k.faults ≡ 0 → l.faults ≡ 0 → Refuses refusal k l status → (status ≡ input refusal) ⊎ (status ≡ Memory)
-refuses refusal k l (Input line reason) z y h = let a : line ≡ refusal.line = h.same_line in let b : reason ≡ refusal.reason = h.same_reason in inl (λ i. Input (a i) (b i))
+refuses : (refusal : Refusal) (k l : SinkState) (status : Status) → k.faults ≡ 0 → l.faults ≡ 0 → Refuses refusal k l status
+    → (status ≡ input refusal) ⊎ (status ≡ Memory)
+refuses refusal k l (Input line reason) z y h =
+    let a : line ≡ refusal.line = h.same_line in let b : reason ≡ refusal.reason = h.same_reason in inl (λ i. Input (a i) (b i))
 refuses refusal k l WriteFault z y h = never_fails k l _ z y h
 refuses refusal k l Memory z y h = inr refl
 refuses refusal k l Done z y h = absurd h
@@ -49,8 +52,10 @@ refuses refusal k l ReadFault z y h = absurd h
 refuses refusal k l LinkFault z y h = absurd h
 refuses refusal k l (Limit which line) z y h = absurd h
 
-passed : (which : LimitKind) (line : ℕ) (k l : SinkState) (status : Status) → k.faults ≡ 0 → l.faults ≡ 0 → Passed which line k l status → (status ≡ Limit which line) ⊎ (status ≡ Memory)
-passed which line k l (Limit said said_line) z y h = let a : said ≡ which = h.same_kind in let b : said_line ≡ line = h.same_line in inl (λ i. Limit (a i) (b i))
+passed : (which : LimitKind) (line : ℕ) (k l : SinkState) (status : Status) → k.faults ≡ 0 → l.faults ≡ 0 → Passed which line k l status
+    → (status ≡ Limit which line) ⊎ (status ≡ Memory)
+passed which line k l (Limit said said_line) z y h =
+    let a : said ≡ which = h.same_kind in let b : said_line ≡ line = h.same_line in inl (λ i. Limit (a i) (b i))
 passed which line k l WriteFault z y h = never_fails k l _ z y h
 passed which line k l Memory z y h = inr refl
 passed which line k l Done z y h = absurd h
@@ -59,7 +64,8 @@ passed which line k l ReadFault z y h = absurd h
 passed which line k l LinkFault z y h = absurd h
 passed which line k l (Input at reason) z y h = absurd h
 
-tells : (short : Bool) (report : Report) (k l : SinkState) (status : Status) → k.faults ≡ 0 → l.faults ≡ 0 → Tells short report k l status → (status ≡ Done) ⊎ (status ≡ Memory)
+tells : (short : Bool) (report : Report) (k l : SinkState) (status : Status) → k.faults ≡ 0 → l.faults ≡ 0 → Tells short report k l status
+    → (status ≡ Done) ⊎ (status ≡ Memory)
 tells short report k l Done z y h = inl refl
 tells short report k l WriteFault z y h = never_fails k l _ z y h
 tells short report k l Memory z y h = inr refl
@@ -84,24 +90,28 @@ performed : (short : Bool) (k l : SinkState) (schedule : Schedule) (status : Sta
     → IsStatusOf schedule status ⊎ (status ≡ Memory)
 performed short k l (Refused refusal) status z y h = refuses refusal k l status z y h
 performed short k l (Read script refused) status z y (inl h) =
-    map_left (λ e. inr (record { line = h.line; passed = h.passed; pass = h.pass; is = e ∙ sym (ap (λ o. status_of_kind o h.line) h.kind) })) (passed h.which h.line k l status z y h.says)
+    map_left (λ e. inr (record { line = h.line; passed = h.passed; pass = h.pass; is = e ∙ sym (ap (λ o. status_of_kind o h.line) h.kind) }))
+        (passed h.which h.line k l status z y h.says)
 performed short k l (Read script None) status z y (inr (inl h)) =
     map_left (λ e. inl (record { world = h.is.is.world; is = h.is.is.reached }, e)) (tells short h.report k l status z y h.tells)
 performed short k l (Read script (Some refusal)) status z y (inr (inl h)) =
     map_left (λ e. inl (h.world, e)) (refuses refusal k l status z y h.refuses)
 performed short k l (Read script refused) status z y (inr (inr h)) = inr (runs_out k l status h)
 
-performs : (short : Bool) (bytes : List ℕ) (s t : SourceState) (k l : SinkState) (status : Status) → s.left ≡ Some bytes → k.faults ≡ 0 → l.faults ≡ 0 → Performed short s t k l status
+performs : (short : Bool) (bytes : List ℕ) (s t : SourceState) (k l : SinkState) (status : Status) → s.left ≡ Some bytes → k.faults ≡ 0 → l.faults ≡ 0
+    → Performed short s t k l status
     → IsSure (Some (Replay short)) bytes status ⊎ (status ≡ Memory)
 performs short bytes s t k l status told z y h =
     let text = h.text in
     let came : Came text s t = h.came in
     let whole : text ≡ bytes = given_whole bytes text t.left (sym told ∙ came.given) came.end in
     let fits : length bytes ≤ 2 ^ 28 = subst (λ (xs : List ℕ). length xs ≤ 2 ^ 28) whole came.within in
-    map_left (λ e. inr (fits, e)) (performed short k l (schedule_of bytes) status z y (subst (λ (xs : List ℕ). Performs short (schedule_of xs) k l status) whole h.performs))
+    map_left (λ e. inr (fits, e)) (performed short k l (schedule_of bytes) status z y
+        (subst (λ (xs : List ℕ). Performs short (schedule_of xs) k l status) whole h.performs))
 
 -- too much came
-too_much : (short : Bool) (bytes : List ℕ) (s t : SourceState) (k l : SinkState) (status : Status) → s.left ≡ Some bytes → k.faults ≡ 0 → l.faults ≡ 0 → RefusesLength s t k l status
+too_much : (short : Bool) (bytes : List ℕ) (s t : SourceState) (k l : SinkState) (status : Status) → s.left ≡ Some bytes → k.faults ≡ 0 → l.faults ≡ 0
+    → RefusesLength s t k l status
     → IsSure (Some (Replay short)) bytes status ⊎ (status ≡ Memory)
 too_much short bytes s t k l (Limit which line) told z y h =
     let more : 2 ^ 28 < length bytes = omega (arith, given_more bytes h.came.came t.left (sym told ∙ h.came.given), h.came.more) in
@@ -122,7 +132,8 @@ whole_or_not : (short : Bool) (bytes : List ℕ) (s t : SourceState) (k l : Sink
 whole_or_not short bytes s t k l status told z y (inl h) = too_much short bytes s t k l status told z y h
 whole_or_not short bytes s t k l status told z y (inr h) = performs short bytes s t k l status told z y h
 
-pub sure_answer : (form : Option Form) (bytes : List ℕ) (s t : SourceState) (k l : SinkState) (status : Status) → s.left ≡ Some bytes → s.faults ≡ 0 → t.faults ≡ 0 → k.faults ≡ 0 → l.faults ≡ 0
+pub sure_answer : (form : Option Form) (bytes : List ℕ) (s t : SourceState) (k l : SinkState) (status : Status) → s.left ≡ Some bytes → s.faults ≡ 0
+    → t.faults ≡ 0 → k.faults ≡ 0 → l.faults ≡ 0
     → AnswersForm form s t k l status → IsSure form bytes status ⊎ (status ≡ Memory)
 sure_answer None bytes s t k l Words told a b z y h = inl refl
 sure_answer None bytes s t k l WriteFault told a b z y h = never_fails k l _ z y h

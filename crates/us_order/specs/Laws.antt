@@ -29,7 +29,8 @@ EveryRunIsASnapshotHistory =
 
 -- the execution is closed, valued and ordered by the conflicts that are declared
 abbrev pub EveryRunIsPor : Type 0
-EveryRunIsPor = (settings : Settings) → HasOnePartition settings → (hs : List Happening) → IsPor settings.conflicts (execution_of (run hs (start settings)).notes)
+EveryRunIsPor =
+    (settings : Settings) → HasOnePartition settings → (hs : List Happening) → IsPor settings.conflicts (execution_of (run hs (start settings)).notes)
 
 -- each past counts, of each session, what can be counted in one step
 abbrev pub PastsAreDirect : Type 0
@@ -41,7 +42,8 @@ PastsAreDirect =
 -- the execution of each run is the one whose pasts are counted in one step
 abbrev pub ExecutionsAreDirect : Type 0
 ExecutionsAreDirect =
-    (settings : Settings) → HasOnePartition settings → (hs : List Happening) → execution_of (run hs (start settings)).notes ≡ execution_by direct_past (history_of (run hs (start settings)).notes)
+    (settings : Settings) → HasOnePartition settings → (hs : List Happening)
+        → execution_of (run hs (start settings)).notes ≡ execution_by direct_past (history_of (run hs (start settings)).notes)
 
 -- after each run, in each session the transactions and their vectors ascend
 abbrev pub HistoriesAscend : Type 0

@@ -24,17 +24,24 @@ all-pass test (y ∷ xs) x h (inl e) = sym (ap test e) ∙ (and_parts _ _ h).0
 all-pass test (y ∷ xs) x h (inr i) = all-pass test xs x (and_parts _ _ h).1 i
 
 -- two of a session
-both-ascend : (c d : Committed) → ascend_by_number c d ≡ true → c.begun.session ≡ d.begun.session → c.number < d.number → (c.begun.tid.seq < d.begun.tid.seq) × (at_most c.vector d.vector ≡ true)
-both-ascend c d h same less = on (session_eq c.begun.session d.begun.session) (ap (λ s. session_eq s d.begun.session) same ∙ session_eq-same d.begun.session) (nat_lt c.number d.number) (lt-ltb _ _ less) h
+both-ascend : (c d : Committed) → ascend_by_number c d ≡ true → c.begun.session ≡ d.begun.session → c.number < d.number
+    → (c.begun.tid.seq < d.begun.tid.seq) × (at_most c.vector d.vector ≡ true)
+both-ascend c d h same less =
+    on (session_eq c.begun.session d.begun.session) (ap (λ s. session_eq s d.begun.session) same ∙ session_eq-same d.begun.session)
+    (nat_lt c.number d.number) (lt-ltb _ _ less) h
   where
-    on : (s : Bool) → s ≡ true → (n : Bool) → n ≡ true → (not (s && n) || (nat_lt c.begun.tid.seq d.begun.tid.seq && at_most c.vector d.vector)) ≡ true → (c.begun.tid.seq < d.begun.tid.seq) × (at_most c.vector d.vector ≡ true)
+    on : (s : Bool) → s ≡ true → (n : Bool) → n ≡ true
+        → (not (s && n) || (nat_lt c.begun.tid.seq d.begun.tid.seq && at_most c.vector d.vector)) ≡ true
+        → (c.begun.tid.seq < d.begun.tid.seq) × (at_most c.vector d.vector ≡ true)
     on true e true f h = let p = and_parts _ _ h in (ltb-true _ _ p.0, p.1)
     on true e false f h = absurd (true≢false (sym f))
     on false e n f h = absurd (true≢false (sym e))
 
 -- none is in its own snapshot
 stay-out : (cs : List Committed) (t : Begun) → all_stay_out cs t ≡ true → IsNotInItsOwn cs t
-stay-out cs t h c i stamped below same = on (tid_eq c.begun.tid t.tid) (ap (λ x. tid_eq x t.tid) same ∙ tid_eq-same t.tid) (has_own_vector c) stamped (at_most c.vector t.snapshot) below (all-pass (λ x. stays_out t x) cs c h i)
+stay-out cs t h c i stamped below same =
+    on (tid_eq c.begun.tid t.tid) (ap (λ x. tid_eq x t.tid) same ∙ tid_eq-same t.tid) (has_own_vector c) stamped (at_most c.vector t.snapshot) below
+    (all-pass (λ x. stays_out t x) cs c h i)
   where
     on : (a : Bool) → a ≡ true → (u : Bool) → u ≡ true → (m : Bool) → m ≡ true → (not a || not (u && m)) ≡ true → ⊥
     on true e true f true g h = true≢false (sym h)
@@ -47,7 +54,10 @@ ascends-holds h e =
     let u = and_parts _ _ e in
     let p = and_parts _ _ u.1 in
     let q = and_parts _ _ p.1 in
-    let pair = λ (c d : Committed) (i : In c h.committed) (j : In d h.committed). both-ascend c d (all-pass (λ x. ascend_by_number c x) h.committed d (all-pass (λ x. list_all (λ y. ascend_by_number x y) h.committed) h.committed c p.0 i) j) in
+    let pair =
+        λ (c d : Committed) (i : In c h.committed) (j : In d h.committed). both-ascend c d
+        (all-pass (λ x. ascend_by_number c x) h.committed d (all-pass (λ x. list_all (λ y. ascend_by_number x y) h.committed) h.committed c p.0 i) j)
+        in
     record {
       unlinked = no-items h.links (eqb-true _ _ u.0);
       sessions = record { seqs = λ c d i j same less. (pair c d i j same less).0; vectors = λ c d i j same less. (pair c d i j same less).1 };

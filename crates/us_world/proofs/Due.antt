@@ -1,5 +1,6 @@
 -- The least undelivered packet is at the first place that is due.
-use Rattle.std.proofs.Common.{◌≡◌, ◌∙◌, ℕ, zero, suc, ◌+◌, ◌≤◌, ◌<◌, List, [], ◌∷◌, length, map, Bool, true, false, Option, Some, None, refl, sym, ap, arith, nat_lt, get_or}
+use Rattle.std.proofs.Common.{◌≡◌, ◌∙◌, ℕ, zero, suc, ◌+◌, ◌≤◌, ◌<◌, List, [], ◌∷◌, length, map, Bool, true, false, Option, Some, None, refl, sym, ap}
+use Rattle.std.proofs.Common.{arith, nat_lt, get_or}
 use Rattle.std.proofs.lemmas.Option.{slice_get-get_or}
 use Rattle.std.specs.Prelude.{◌&&◌, ◌==◌, not}
 use Rattle.std.specs.List.{slice_get}
@@ -57,7 +58,8 @@ marks-of k w h i n e =
     let same : n ≡ i + 1 = omega arith in
     ap (is_delivered w.delivered) same ∙ h.marked i
 
-before-due : (k : Kept) (w : World) (from to end : ℕ) → StandsFor k w → NoneDue from to k.sent k.cursor end → (i : ℕ) → i < end → is_due_at from to k.sent i ≡ false
+before-due : (k : Kept) (w : World) (from to end : ℕ) → StandsFor k w → NoneDue from to k.sent k.cursor end → (i : ℕ) → i < end
+    → is_due_at from to k.sent i ≡ false
 before-due k w from to end h none i l = on (nat_lt i k.cursor) refl
   where
     on : (t : Bool) → nat_lt i k.cursor ≡ t → is_due_at from to k.sent i ≡ false
@@ -84,7 +86,8 @@ at-place : {X : Type 0} (xs : List X) (place : ℕ) (x : X) → place < length x
 at-place xs place x within is = slice_get-get_or xs place x within ∙ ap Some (sym is)
 
 -- the packet of this turn
-pub due_here : (from to : ℕ) (sent : List Sent) (place : ℕ) (s : Sent) → place < length sent → s ≡ get_or sent place s → is_due_at from to sent place ≡ is_due from to s
+pub due_here : (from to : ℕ) (sent : List Sent) (place : ℕ) (s : Sent) → place < length sent → s ≡ get_or sent place s
+    → is_due_at from to sent place ≡ is_due from to s
 due_here from to sent place s within is = ap (is_due_of from to) (at-place sent place s within is)
 
 pub marked_here : (sent : List Sent) (place : ℕ) (s : Sent) → place < length sent → s ≡ get_or sent place s → is_marked_at sent place ≡ s.delivered

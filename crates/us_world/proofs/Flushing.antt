@@ -1,5 +1,6 @@
 -- Deliveries, one and many.
-use Rattle.std.proofs.Common.{◌≡◌, ◌∙◌, ℕ, ◌+◌, ◌<◌, List, [], ◌∷◌, ◌++◌, length, map, true, Some, None, Err, refl, sym, ap, subst, arith, length-append, ◌⊎◌, inl, inr}
+use Rattle.std.proofs.Common.{◌≡◌, ◌∙◌, ℕ, ◌+◌, ◌<◌, List, [], ◌∷◌, ◌++◌, length, map, true, Some, None, Err, refl, sym, ap, subst, arith}
+use Rattle.std.proofs.Common.{length-append, ◌⊎◌, inl, inr}
 use Rattle.std.proofs.lemmas.List.{length-map}
 use Rattle.std.specs.Prelude.{⊤}
 use Rattle.std.specs.List.{slice_get}
@@ -19,7 +20,8 @@ pub events-delivery : (place : ℕ) (s : Sent) (k : Kept) → (after_delivery pl
 events-delivery place s k = events-at (marked place s k) s.packet.to.site (event.Take s.packet)
 
 -- ONE DELIVERY
-pub one_delivery : (k : Kept) (place number : ℕ) (s : Sent) → slice_get k.sent place ≡ Some s → number ≡ place + 1 → OneEvent (IsDelivery number) k (after_delivery place s k)
+pub one_delivery : (k : Kept) (place number : ℕ) (s : Sent) → slice_get k.sent place ≡ Some s → number ≡ place + 1
+    → OneEvent (IsDelivery number) k (after_delivery place s k)
 one_delivery k place number s at is = record {
   happening = λ w. Comes number;
   is = λ w h. sym (ap (delivery_of number) (nth-place k w place number s h at is));
@@ -40,7 +42,8 @@ no_delivery k number out w h =
     ([], sym (ap (delivery_of number) none), refl, h, same)
 
 -- A FLUSH FROM THE FRONT
-delivers-more : (from to : ℕ) (w : World) (hs : List Happening) (k : ℕ) → Delivers from to w hs → least_undelivered (run hs w) from to ≡ Some k → Delivers from to w (hs ++ Comes k ∷ [])
+delivers-more : (from to : ℕ) (w : World) (hs : List Happening) (k : ℕ) → Delivers from to w hs → least_undelivered (run hs w) from to ≡ Some k
+    → Delivers from to w (hs ++ Comes k ∷ [])
 delivers-more from to w [] k d e = ((k, e, refl), tt)
 delivers-more from to w (h ∷ hs) k d e = (d.0, delivers-more from to (happens w h) hs k d.1 e)
 
@@ -101,7 +104,8 @@ delivered-past from to old mid k place s which so next at past w h =
     let front : k.events ≡ old.events + length hs = omega arith in (
       hs ++ Comes (place + 1) ∷ [],
       delivers-more from to w hs (place + 1) was.1 least,
-      limit_after old.events k.events hs (Comes (place + 1) ∷ []) w (Some which) was.2 front (limit_one kept v (Comes (place + 1)) k.events (Some which) there events past),
+      limit_after old.events k.events hs (Comes (place + 1) ∷ []) w (Some which) was.2 front
+          (limit_one kept v (Comes (place + 1)) k.events (Some which) there events past),
     )
 
 pub delivered_stops : (e : WorldFault) (from to : ℕ) (old mid k : Kept) (place : ℕ) (s : Sent) → GoesBy (Delivers from to) old mid → IsNext from to mid k place
@@ -111,7 +115,8 @@ delivered_stops fault.Events from to old mid k place s so next at says = deliver
 delivered_stops fault.Sessions from to old mid k place s so next at says = delivered-past from to old mid k place s fault.Sessions so next at says
 delivered_stops fault.Transactions from to old mid k place s so next at says = delivered-past from to old mid k place s fault.Transactions so next at says
 
-pub delivered_all : (from to : ℕ) (old mid new : Kept) → GoesBy (Delivers from to) old mid → HasSkipped mid new → NoneDue from to new.sent new.cursor (length new.sent)
+pub delivered_all : (from to : ℕ) (old mid new : Kept) → GoesBy (Delivers from to) old mid → HasSkipped mid new
+    → NoneDue from to new.sent new.cursor (length new.sent)
     → GoesBy (Flushes from to) old new
 delivered_all from to old mid new so skip none w h =
     let was = so w h in

@@ -28,7 +28,8 @@ limit-append n (h ∷ hs) gs w =
     ∙ sym (or-assoc (passed (n + 1) v) (limit_of (n + 1) hs v) (limit_of (n + length (h ∷ hs)) gs (run hs v)))
 
 -- after happenings within the limits the limit is that of the others
-pub limit_after : (n m : ℕ) (hs gs : List Happening) (w : World) (o : Option WorldFault) → limit_of n hs w ≡ None → m ≡ n + length hs → limit_of m gs (run hs w) ≡ o
+pub limit_after : (n m : ℕ) (hs gs : List Happening) (w : World) (o : Option WorldFault) → limit_of n hs w ≡ None → m ≡ n + length hs
+    → limit_of m gs (run hs w) ≡ o
     → limit_of n (hs ++ gs) w ≡ o
 limit_after n m hs gs w o none is rest =
     limit-append n hs gs w ∙ ap (λ p. or_else p (limit_of (n + length hs) gs (run hs w))) none ∙ ap (λ k. limit_of k gs (run hs w)) (sym is) ∙ rest
@@ -38,7 +39,8 @@ limit_after n m hs gs w o none is rest =
 passed-stands : (k : Kept) (w : World) (n : ℕ) → StandsFor k w → n ≡ k.events → passed n w ≡ passed_by k
 passed-stands k w n h is = λ i. past_limits (is i) (h.sessions i) (h.transactions i)
 
-pub limit_one : (after : Kept) (w : World) (h : Happening) (n : ℕ) (o : Option WorldFault) → StandsFor after (happens w h) → after.events ≡ n + 1 → passed_by after ≡ o
+pub limit_one : (after : Kept) (w : World) (h : Happening) (n : ℕ) (o : Option WorldFault) → StandsFor after (happens w h) → after.events ≡ n + 1
+    → passed_by after ≡ o
     → limit_of n (h ∷ []) w ≡ o
 limit_one after w h n o stands is says = ap (λ p. or_else p None) (passed-stands after (happens w h) (n + 1) stands (sym is) ∙ says) ∙ or-none o
   where
@@ -61,7 +63,8 @@ goes-one Are old after new one is within =
     let one-more : after.events ≡ old.events + length (g ∷ []) = one.counts in
     (g ∷ [], one.is w h, limit_one after w g old.events None stands one.counts within, stands, one-more))
 
-passes-one : (Are : World → List Happening → Type 0) (old after : Kept) (which : WorldFault) → OneEvent Are old after → passed_by after ≡ Some which → PassesBy Are old which
+passes-one : (Are : World → List Happening → Type 0) (old after : Kept) (which : WorldFault) → OneEvent Are old after → passed_by after ≡ Some which
+    → PassesBy Are old which
 passes-one Are old after which one past w h =
     let g = one.happening w in
     (g ∷ [], one.is w h, limit_one after w g old.events (Some which) (one.stands w h) one.counts past)
@@ -87,13 +90,15 @@ goes_weaker Are Be old new weaker goes w h =
     let g = goes w h in
     (g.0, weaker w h g.0 g.1, g.2, g.3, g.4)
 
-passes-weaker : (Are Be : World → List Happening → Type 0) (old : Kept) (which : WorldFault) → ((w : World) → StandsFor old w → (hs : List Happening) → Are w hs → Be w hs)
+passes-weaker : (Are Be : World → List Happening → Type 0) (old : Kept) (which : WorldFault)
+    → ((w : World) → StandsFor old w → (hs : List Happening) → Are w hs → Be w hs)
     → PassesBy Are old which → PassesBy Be old which
 passes-weaker Are Be old which weaker passes w h =
     let g = passes w h in
     (g.0, weaker w h g.0 g.1, g.2)
 
-pub stopped_weaker : (Are Be : World → List Happening → Type 0) (old : Kept) (e : WorldFault) → ((w : World) → StandsFor old w → (hs : List Happening) → Are w hs → Be w hs)
+pub stopped_weaker : (Are Be : World → List Happening → Type 0) (old : Kept) (e : WorldFault)
+    → ((w : World) → StandsFor old w → (hs : List Happening) → Are w hs → Be w hs)
     → StoppedBy Are old e → StoppedBy Be old e
 stopped_weaker Are Be old fault.Memory weaker h = tt
 stopped_weaker Are Be old fault.Events weaker h = passes-weaker Are Be old fault.Events weaker h

@@ -1,5 +1,6 @@
 -- Lines lead to an outcome, a line at a time.
-use Rattle.std.proofs.Common.{◌≡◌, ◌∙◌, ℕ, ◌+◌, ◌⊎◌, inl, inr, List, [], ◌∷◌, ◌++◌, length, length-append, append-nil, append_assoc, Option, Some, None, refl, sym, ap, subst, arith}
+use Rattle.std.proofs.Common.{◌≡◌, ◌∙◌, ℕ, ◌+◌, ◌⊎◌, inl, inr, List, [], ◌∷◌, ◌++◌, length, length-append, append-nil, append_assoc, Option, Some}
+use Rattle.std.proofs.Common.{None, refl, sym, ap, subst, arith}
 use Rattle.us_schedule.specs.declared.line.Line.{Line}
 use Rattle.us_model.specs.Worlds.{World, Happening, run}
 use Rattle.us_world.specs.declared.fault.WorldFault.{WorldFault}
@@ -58,13 +59,15 @@ none-second (Some which) b e = absurd (cc)
 within-first : (n : ℕ) (es own others : List Happening) (w : World) → es ≡ own ++ others → limit_of n es w ≡ None → limit_of n own w ≡ None
 within-first n es own others w is within = none-first _ _ (sym (limit-append n own others w) ∙ ap (λ hs. limit_of n hs w) (sym is) ∙ within)
 
-within-others : (n : ℕ) (es own others : List Happening) (w : World) → es ≡ own ++ others → limit_of n es w ≡ None → limit_of (n + length own) others (run own w) ≡ None
+within-others : (n : ℕ) (es own others : List Happening) (w : World) → es ≡ own ++ others → limit_of n es w ≡ None
+    → limit_of (n + length own) others (run own w) ≡ None
 within-others n es own others w is within = none-second _ _ (sym (limit-append n own others w) ∙ ap (λ hs. limit_of n hs w) (sym is) ∙ within)
 
 run-parts : (es own others : List Happening) (w : World) → es ≡ own ++ others → run es w ≡ run others (run own w)
 run-parts es own others w is = ap (λ hs. run hs w) is ∙ run-append own others w
 
-pub leads_reach : (lines : List Numbered) (n : ℕ) (w : World) (es : List Happening) → AreEventsOf lines w es → limit_of n es w ≡ None → Leads lines n w (Reaches (run es w))
+pub leads_reach : (lines : List Numbered) (n : ℕ) (w : World) (es : List Happening) → AreEventsOf lines w es → limit_of n es w ≡ None
+    → Leads lines n w (Reaches (run es w))
 leads_reach [] n w es are within = ap (λ hs. Reaches (run hs w)) are
 leads_reach (l ∷ ls) n w es are within =
     inl (
@@ -75,8 +78,10 @@ leads_reach (l ∷ ls) n w es are within =
           (leads_reach ls (n + length are.0) (run are.0 w) are.1 are.4 (within-others n es are.0 are.1 w are.3 within)),
     )
 
-pub leads_past : (before : List Numbered) (l : Numbered) (after : List Numbered) (n : ℕ) (w : World) (es own : List Happening) (which : WorldFault) → AreEventsOf before w es
-    → limit_of n es w ≡ None → Begins l.line (run es w) own → limit_of (n + length es) own (run es w) ≡ Some which → Leads (before ++ l ∷ after) n w (Passes l.number which)
+pub leads_past : (before : List Numbered) (l : Numbered) (after : List Numbered) (n : ℕ) (w : World) (es own : List Happening) (which : WorldFault)
+    → AreEventsOf before w es
+    → limit_of n es w ≡ None → Begins l.line (run es w) own → limit_of (n + length es) own (run es w) ≡ Some which
+        → Leads (before ++ l ∷ after) n w (Passes l.number which)
 leads_past [] l after n w es own which are within begins past =
     let here : Begins l.line w own = subst (λ (hs : List Happening). Begins l.line (run hs w) own) are begins in
     let zero : n + length es ≡ n = let e = ap length are in omega arith in
@@ -91,5 +96,6 @@ leads_past (x ∷ xs) l after n w es own which are within begins past =
       are.0,
       are.2,
       within-first n es are.0 are.1 w are.3 within,
-      leads_past xs l after (n + length are.0) v are.1 own which are.4 (within-others n es are.0 are.1 w are.3 within) (subst (λ u. Begins l.line u own) same begins) there,
+      leads_past xs l after (n + length are.0) v are.1 own which are.4 (within-others n es are.0 are.1 w are.3 within)
+          (subst (λ u. Begins l.line u own) same begins) there,
     )

@@ -18,7 +18,8 @@ use Rattle.us_world.specs.declared.fault.WorldFault.TheVariants as fault
 use Rattle.us_world.specs.declared.fault.Numbered.{Numbered}
 use Rattle.us_world.specs.Kept.{Kept, StandsFor, after_at}
 use Rattle.us_world.specs.Limits.{Performs, Begins, limit_of, AreEventsOf, IsPassedAt}
-use Rattle.us_world.specs.Lines.{IsBuilt, AllBuilt, PassesBy, IsPerformed, IsStopped, HasReached, HaveWorld, report_of, report_of_kept, IsReportOf, IsLimitOf, fault_at}
+use Rattle.us_world.specs.Lines.{IsBuilt, AllBuilt, PassesBy, IsPerformed, IsStopped, HasReached, HaveWorld, report_of, report_of_kept, IsReportOf}
+use Rattle.us_world.specs.Lines.{IsLimitOf, fault_at}
 use Rattle.us_world.proofs.Standing.{stands_at, events-at}
 use Rattle.us_world.proofs.Happenings.{run-append, limit_after, OneEvent}
 use Rattle.us_world.proofs.Leads.{events_more}
@@ -33,7 +34,8 @@ one_opening k site coord = record {
   counts = events-at k site (event.Open coord);
 }
 
-pub one_sending : (k : Kept) (site coord session : ℕ) (piece : List ℕ) → OneEvent (Performs (line.Bytes site coord session piece)) k (after_at k site (event.Bytes coord session piece))
+pub one_sending : (k : Kept) (site coord session : ℕ) (piece : List ℕ)
+    → OneEvent (Performs (line.Bytes site coord session piece)) k (after_at k site (event.Bytes coord session piece))
 unfolding happens
 one_sending k site coord session piece = record {
   happening = λ w. Sends site coord session piece;
@@ -65,7 +67,8 @@ pub record HasPerformed (settings : Settings) (all left : List Numbered) (k : Ke
 pub performed_none : (settings : Settings) (all : List Numbered) (k : Kept) → StandsFor k (start settings) → k.events ≡ 0 → HasPerformed settings all all k
 performed_none settings all k h none = record { before = []; lines = refl; events = []; are = refl; within = refl; counts = none; stands = h }
 
-pub performed_more : (settings : Settings) (all left rest : List Numbered) (l : Numbered) (old new : Kept) → HasPerformed settings all left old → left ≡ l ∷ rest
+pub performed_more : (settings : Settings) (all left rest : List Numbered) (l : Numbered) (old new : Kept) → HasPerformed settings all left old
+    → left ≡ l ∷ rest
     → IsPerformed l.line old new → HasPerformed settings all rest new
 performed_more settings all left rest l old new so is step =
     let next = step (run so.events (start settings)) so.stands in
@@ -82,7 +85,8 @@ performed_more settings all left rest l old new so is step =
       stands = subst (λ (v : World). StandsFor new v) (sym (run-append so.events own (start settings))) next.3;
     }
 
-passed-at : (settings : Settings) (all left rest : List Numbered) (l : Numbered) (old : Kept) (which : WorldFault) → HasPerformed settings all left old → left ≡ l ∷ rest
+passed-at : (settings : Settings) (all left rest : List Numbered) (l : Numbered) (old : Kept) (which : WorldFault)
+    → HasPerformed settings all left old → left ≡ l ∷ rest
     → PassesBy (Begins l.line) old which → IsPassedAt settings all l.number which
 passed-at settings all left rest l old which so is step =
     let past = step (run so.events (start settings)) so.stands in
@@ -100,7 +104,8 @@ passed-at settings all left rest l old which so is step =
       passes = ap (λ n. limit_of n past.0 (run so.events (start settings))) (sym so.counts) ∙ past.2;
     }
 
-pub performed_stops : (settings : Settings) (e : WorldFault) (all left rest : List Numbered) (l : Numbered) (old : Kept) → HasPerformed settings all left old → left ≡ l ∷ rest
+pub performed_stops : (settings : Settings) (e : WorldFault) (all left rest : List Numbered) (l : Numbered) (old : Kept)
+    → HasPerformed settings all left old → left ≡ l ∷ rest
     → IsStopped l.line old e → IsLimitOf settings all (fault_at l.number e)
 performed_stops settings fault.Memory all left rest l old so is step = tt
 performed_stops settings fault.Events all left rest l old so is step = passed-at settings all left rest l old fault.Events so is step
@@ -113,7 +118,9 @@ performed_all settings all k so =
     record {
       world = run so.events (start settings);
       stands = so.stands;
-      is = record { events = so.events; are = subst (λ (ls : List Numbered). AreEventsOf ls (start settings) so.events) same so.are; within = so.within; run = refl };
+      is =
+          record { events = so.events; are = subst (λ (ls : List Numbered). AreEventsOf ls (start settings) so.events) same so.are;
+          within = so.within; run = refl };
     }
 
 pub built_head : (left rest : List Numbered) (l : Numbered) → AllBuilt left → left ≡ l ∷ rest → IsBuilt l.line
@@ -133,7 +140,8 @@ report-same k w h direct =
     let waits = ap (λ sites. waits_of sites) (sym h.sites) in
     λ i. record { execution = execution i; refused = refused i; waiting = waits i }
 
-pub report_is : (settings : Settings) → HasOnePartition settings → (lines : List Numbered) (k : Kept) (report : Report) → HasReached settings lines k → ExecutionsAreDirect → report ≡ report_of_kept k
+pub report_is : (settings : Settings) → HasOnePartition settings → (lines : List Numbered) (k : Kept) (report : Report) → HasReached settings lines k
+    → ExecutionsAreDirect → report ≡ report_of_kept k
     → IsReportOf settings lines report
 report_is settings one lines k report so direct is =
     let same : execution_of so.world.notes ≡ execution_by direct_past (history_of so.world.notes) =
@@ -141,14 +149,18 @@ report_is settings one lines k report so direct is =
     in
     record { world = so.world; reached = so.is; is = is ∙ report-same k so.world so.stands same }
 
-pub report_sound : (settings : Settings) → HasOnePartition settings → (lines : List Numbered) (report : Report) → EveryRunIsPor → ExecutionsAreWellFormed → IsReportOf settings lines report
+pub report_sound : (settings : Settings) → HasOnePartition settings → (lines : List Numbered) (report : Report) → EveryRunIsPor
+    → ExecutionsAreWellFormed → IsReportOf settings lines report
     → IsSound settings.conflicts report.execution
 report_sound settings one lines report por formed is =
     let es = is.reached.events in
-    let there : IsSound settings.conflicts (execution_of (run es (start settings)).notes) = record { formed = formed settings one es; consistent = por settings one es } in
-    subst (λ (s : Report). IsSound settings.conflicts s.execution) (sym is.is) (subst (λ (w : World). IsSound settings.conflicts (execution_of w.notes)) (sym is.reached.run) there)
+    let there : IsSound settings.conflicts (execution_of (run es (start settings)).notes) =
+        record { formed = formed settings one es; consistent = por settings one es } in
+    subst (λ (s : Report). IsSound settings.conflicts s.execution) (sym is.is)
+        (subst (λ (w : World). IsSound settings.conflicts (execution_of w.notes)) (sym is.reached.run) there)
 
-pub history_ascends : (settings : Settings) → HasOnePartition settings → (lines : List Numbered) (k : Kept) → HasReached settings lines k → HistoriesAscend → Ascends k.history
+pub history_ascends : (settings : Settings) → HasOnePartition settings → (lines : List Numbered) (k : Kept) → HasReached settings lines k
+    → HistoriesAscend → Ascends k.history
 history_ascends settings one lines k so ascend =
     let there : Ascends (history_of so.world.notes) = subst (λ (w : World). Ascends (history_of w.notes)) (sym so.is.run) (ascend settings one so.is.events) in
     subst Ascends so.stands.history there

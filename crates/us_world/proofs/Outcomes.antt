@@ -45,13 +45,15 @@ or-some None b which e = inr (refl, e)
 or-some (Some x) b which e = inl e
 
 -- THE FIRST DELIVERIES OF A FLUSH, and the whole one
-front-past : (from to n : ℕ) (w : World) (hs gs : List Happening) (which : WorldFault) → Delivers from to w hs → Flushes from to w gs → limit_of n hs w ≡ Some which → limit_of n gs w ≡ Some which
+front-past : (from to n : ℕ) (w : World) (hs gs : List Happening) (which : WorldFault) → Delivers from to w hs → Flushes from to w gs
+    → limit_of n hs w ≡ Some which → limit_of n gs w ≡ Some which
 front-past from to n w [] gs which d f past = absurd (cc)
 front-past from to n w (h ∷ hs) [] which d f past = no-least (least_undelivered w from to) d.0.0 f d.0.1
 front-past from to n w (h ∷ hs) (g ∷ gs) which d f past =
     let same : h ≡ g = same-least (least_undelivered w from to) d.0.0 f.0.0 h g d.0.1 f.0.1 d.0.2 f.0.2 in
     let rest : Flushes from to (happens w h) gs = subst (λ i. Flushes from to (happens w i) gs) (sym same) f.1 in
-    let here : limit_of n (h ∷ gs) w ≡ Some which = on (passed (n + 1) (happens w h)) past (λ p. front-past from to (n + 1) (happens w h) hs gs which d.1 rest p) in
+    let here : limit_of n (h ∷ gs) w ≡ Some which =
+        on (passed (n + 1) (happens w h)) past (λ p. front-past from to (n + 1) (happens w h) hs gs which d.1 rest p) in
     subst (λ i. limit_of n (i ∷ gs) w ≡ Some which) same here
   where
     on : (o : Option WorldFault) → or_else o (limit_of (n + 1) hs (happens w h)) ≡ Some which
@@ -82,7 +84,8 @@ determined n w hs gs a b same p q =
     let there : limit_of n hs w ≡ Some b = ap (λ is. limit_of n is w) same ∙ q in
     cc
 
-begins-one : (l : Line) (n : ℕ) (w : World) (hs gs : List Happening) (a b : WorldFault) → Begins l w hs → Begins l w gs → limit_of n hs w ≡ Some a → limit_of n gs w ≡ Some b → a ≡ b
+begins-one : (l : Line) (n : ℕ) (w : World) (hs gs : List Happening) (a b : WorldFault) → Begins l w hs → Begins l w gs → limit_of n hs w ≡ Some a
+    → limit_of n gs w ≡ Some b → a ≡ b
 begins-one (line.Flush from to) n w hs gs a b d e p q = fronts-past from to n w hs gs a b d e p q
 begins-one (line.Open site coord) n w hs gs a b d e p q = determined n w hs gs a b (d ∙ sym e) p q
 begins-one (line.Bytes site coord session piece) n w hs gs a b d e p q = determined n w hs gs a b (d ∙ sym e) p q
@@ -95,7 +98,8 @@ begins-one (line.Crash site) n w hs gs a b d e p q = absurd d
 begins-one (line.Settle clock rounds) n w hs gs a b d e p q = absurd d
 
 -- what passes a limit isn't performed within the limits
-front-within : (l : Line) (n : ℕ) (w : World) (hs gs : List Happening) (which : WorldFault) → Begins l w hs → limit_of n hs w ≡ Some which → Performs l w gs → limit_of n gs w ≡ Some which
+front-within : (l : Line) (n : ℕ) (w : World) (hs gs : List Happening) (which : WorldFault) → Begins l w hs → limit_of n hs w ≡ Some which
+    → Performs l w gs → limit_of n gs w ≡ Some which
 front-within (line.Flush from to) n w hs gs which d p f = front-past from to n w hs gs which d f p
 front-within (line.Open site coord) n w hs gs which d p f = ap (λ is. limit_of n is w) (f ∙ sym d) ∙ p
 front-within (line.Bytes site coord session piece) n w hs gs which d p f = ap (λ is. limit_of n is w) (f ∙ sym d) ∙ p
@@ -127,11 +131,15 @@ outcomes-one (l ∷ ls) n w a b (inr x) (inr y) =
 reached : (settings : Settings) (lines : List Numbered) (w : World) → IsWorldOf settings lines w → Leads lines 0 (start settings) (Reaches w)
 reached settings lines w h = subst (λ v. Leads lines 0 (start settings) (Reaches v)) (sym h.run) (leads_reach lines 0 (start settings) h.events h.are h.within)
 
-passed_by : (settings : Settings) (lines : List Numbered) (n : ℕ) (which : WorldFault) → IsPassedAt settings lines n which → Leads lines 0 (start settings) (Passes n which)
+passed_by : (settings : Settings) (lines : List Numbered) (n : ℕ) (which : WorldFault) → IsPassedAt settings lines n which
+    → Leads lines 0 (start settings) (Passes n which)
 passed_by settings lines n which h =
     let zero : 0 + length h.events ≡ length h.events = omega arith in
-    let there = leads_past h.before h.line h.after 0 (start settings) h.events h.own which h.are h.within h.first (ap (λ n. limit_of n h.own (run h.events (start settings))) zero ∙ h.passes) in
-    subst (λ m. Leads lines 0 (start settings) (Passes m which)) h.at (subst (λ (ls : List Numbered). Leads ls 0 (start settings) (Passes h.line.number which)) (sym h.split) there)
+    let there =
+        leads_past h.before h.line h.after 0 (start settings) h.events h.own which h.are h.within h.first
+        (ap (λ n. limit_of n h.own (run h.events (start settings))) zero ∙ h.passes) in
+    subst (λ m. Leads lines 0 (start settings) (Passes m which)) h.at
+        (subst (λ (ls : List Numbered). Leads ls 0 (start settings) (Passes h.line.number which)) (sym h.split) there)
 
 same_world : (w v : World) → Reaches w ≡ Reaches v → w ≡ v
 same_world w v e = cc
@@ -144,7 +152,13 @@ not_both w n a e = absurd (cc)
 
 pub outcomes_one : OutcomesAreOne
 outcomes_one = record {
-  worlds = λ settings lines w v x y. same_world w v (outcomes-one lines 0 (start settings) (Reaches w) (Reaches v) (reached settings lines w x) (reached settings lines v y));
-  limits = λ settings lines n m a b x y. same_limit n m a b (outcomes-one lines 0 (start settings) (Passes n a) (Passes m b) (passed_by settings lines n a x) (passed_by settings lines m b y));
-  apart = λ settings lines w n a x y. not_both w n a (outcomes-one lines 0 (start settings) (Reaches w) (Passes n a) (reached settings lines w x) (passed_by settings lines n a y));
+  worlds =
+      λ settings lines w v x y. same_world w v (outcomes-one lines 0 (start settings) (Reaches w) (Reaches v) (reached settings lines w x)
+      (reached settings lines v y));
+  limits =
+      λ settings lines n m a b x y. same_limit n m a b (outcomes-one lines 0 (start settings) (Passes n a) (Passes m b)
+      (passed_by settings lines n a x) (passed_by settings lines m b y));
+  apart =
+      λ settings lines w n a x y. not_both w n a (outcomes-one lines 0 (start settings) (Reaches w) (Passes n a) (reached settings lines w x)
+      (passed_by settings lines n a y));
 }

@@ -1,5 +1,6 @@
 -- What is kept stands for the world, and goes along with it.
-use Rattle.std.proofs.Common.{◌≡◌, ◌∙◌, ℕ, zero, suc, ◌+◌, ◌-◌, ◌≤◌, ◌<◌, List, [], ◌∷◌, ◌++◌, length, map, Bool, true, false, cond, Option, Some, None, ◌⊎◌, inl, inr, refl, sym, ap, subst, arith, nat_lt, append_assoc, get_or}
+use Rattle.std.proofs.Common.{◌≡◌, ◌∙◌, ℕ, zero, suc, ◌+◌, ◌-◌, ◌≤◌, ◌<◌, List, [], ◌∷◌, ◌++◌, length, map, Bool, true, false, cond, Option, Some}
+use Rattle.std.proofs.Common.{None, ◌⊎◌, inl, inr, refl, sym, ap, subst, arith, nat_lt, append_assoc, get_or}
 use Rattle.std.proofs.lemmas.Option.{slice_get-get_or}
 use Rattle.std.specs.Prelude.{◌||◌, ◌==◌, Result, Ok, Err, OnOk, IfOk}
 use Rattle.us_world.specs.declared.fault.WorldFault.TheVariants as fault
@@ -22,7 +23,8 @@ use Rattle.us_history.specs.Histories.{History, no_history}
 use Rattle.us_model.specs.Executions.{noted, noted_all}
 use Rattle.us_world.specs.declared.world.Sent.{Sent}
 use Rattle.us_world.specs.Limits.{is_opening, is_beginning, how_many, opened_in, begun_in}
-use Rattle.us_world.specs.Kept.{Kept, StandsFor, site_of, HasStepped, packet_of, fresh, unmarked, is_marked_at, after_step, after_nothing, after_one, after_at, marked, after_delivery, HasSkipped, IsDelivered, HasCome, LimitSays, passed_by}
+use Rattle.us_world.specs.Kept.{Kept, StandsFor, site_of, HasStepped, packet_of, fresh, unmarked, is_marked_at, after_step, after_nothing, after_one}
+use Rattle.us_world.specs.Kept.{after_at, marked, after_delivery, HasSkipped, IsDelivered, HasCome, LimitSays, passed_by}
 
 -- PACKETS AND NOTES IN TURN
 -- one more is on its way
@@ -157,10 +159,12 @@ pub events-at : (k : Kept) (s : ℕ) (e : Event) → (after_at k s e).events ≡
 events-at k s e = events-one k s e (nth k.sites s)
 
 -- the site of a number that there is, and where there is none
-pub after_stepped : (k : Kept) (s place : ℕ) (e : Event) (site : Site) → s ≡ place + 1 → slice_get k.sites place ≡ Some site → after_at k s e ≡ after_step (place + 1) k (site_step site e)
+pub after_stepped : (k : Kept) (s place : ℕ) (e : Event) (site : Site) → s ≡ place + 1 → slice_get k.sites place ≡ Some site
+    → after_at k s e ≡ after_step (place + 1) k (site_step site e)
 after_stepped k s place e site is at =
     ap (λ n. after_at k n e) is
-    ∙ ap (after_one k (place + 1) e) (nth-get k.sites (place + 1) site (omega arith) (λ m f. let same : m ≡ place = omega arith in ap (λ i. slice_get k.sites i) same ∙ at))
+    ∙ ap (after_one k (place + 1) e) (nth-get k.sites (place + 1) site (omega arith)
+        (λ m f. let same : m ≡ place = omega arith in ap (λ i. slice_get k.sites i) same ∙ at))
 
 pub after_none : (k : Kept) (s : ℕ) (e : Event) → (s ≡ 0) ⊎ (length k.sites < s) → after_at k s e ≡ after_nothing k
 after_none k s e out = ap (after_one k s e) (nth-outside k.sites s out)
@@ -207,13 +211,15 @@ stands_marked k w place number s h at is = record {
     elsewhere : (i : ℕ) → (number == (i + 1)) ≡ false → is_marked_at (slice_set k.sent place (record s { delivered = true })) i ≡ is_marked_at k.sent i
     elsewhere i t = marked-other k.sent place i (record s { delivered = true }) (λ e. let same : (number == (i + 1)) ≡ true = grind (arith, nat_tests) in cc)
 
-    mark : (i : ℕ) (t : Bool) → (number == (i + 1)) ≡ t → is_delivered (w.delivered ++ number ∷ []) (i + 1) ≡ is_marked_at (slice_set k.sent place (record s { delivered = true })) i
+    mark : (i : ℕ) (t : Bool) → (number == (i + 1)) ≡ t
+        → is_delivered (w.delivered ++ number ∷ []) (i + 1) ≡ is_marked_at (slice_set k.sent place (record s { delivered = true })) i
     mark i true t =
         let same : number ≡ i + 1 = grind (arith, nat_tests) in
         del-same w.delivered number (i + 1) same ∙ sym (there i t)
     mark i false t = del-other w.delivered number (i + 1) t ∙ h.marked i ∙ sym (elsewhere i t)
 
-    keep : (i : ℕ) → is_marked_at k.sent i ≡ true → (t : Bool) → (number == (i + 1)) ≡ t → is_marked_at (slice_set k.sent place (record s { delivered = true })) i ≡ true
+    keep : (i : ℕ) → is_marked_at k.sent i ≡ true → (t : Bool) → (number == (i + 1)) ≡ t
+        → is_marked_at (slice_set k.sent place (record s { delivered = true })) i ≡ true
     keep i was true t = there i t
     keep i was false t = elsewhere i t ∙ was
 
@@ -247,7 +253,8 @@ stands_skipped k next w h skip =
         skip.over i over high
 
 -- A PLACE THAT IS DELIVERED
-pub delivered_is : (old : List Sent) (place : ℕ) (r m : Sent) (packet : Packet) → place < length old → r ≡ get_or old place r → m ≡ get_or old place m → packet ≡ r.packet
+pub delivered_is : (old : List Sent) (place : ℕ) (r m : Sent) (packet : Packet) → place < length old → r ≡ get_or old place r → m ≡ get_or old place m
+    → packet ≡ r.packet
     → IsDelivered place old (slice_set old place (record { packet = m.packet; delivered = true })) packet
 delivered_is old place r m packet within here there is =
     let first : slice_get old place ≡ Some r = slice_get-get_or old place r within ∙ ap Some (sym here) in
@@ -256,8 +263,10 @@ delivered_is old place r m packet within here there is =
     record { sent = m; at = second; is = is ∙ ap packet_of same; marked = refl }
 
 -- and then its packet comes
-pub come_of : {A : Type 0} (r : Result A WorldFault) (place : ℕ) (old new : Kept) (after : List Sent) (packet : Packet) → IsDelivered place old.sent after packet
-    → OnOk r (new ≡ after_at (record old { sent = after }) packet.to.site (event.Take packet)) → LimitSays r (passed_by (after_at (record old { sent = after }) packet.to.site (event.Take packet)))
+pub come_of : {A : Type 0} (r : Result A WorldFault) (place : ℕ) (old new : Kept) (after : List Sent) (packet : Packet)
+    → IsDelivered place old.sent after packet
+    → OnOk r (new ≡ after_at (record old { sent = after }) packet.to.site (event.Take packet))
+        → LimitSays r (passed_by (after_at (record old { sent = after }) packet.to.site (event.Take packet)))
     → HasCome r place old new
 come_of r place old new after packet d happened limit =
     let same : after_at (record old { sent = after }) packet.to.site (event.Take packet) ≡ after_delivery place d.sent old =
@@ -306,7 +315,8 @@ has_stepped (Ok out) sites place other new e within site gives = record {
 has_stepped (Err x) sites place other new e within site gives = tt
 
 -- and the world is as after it
-pub world_stepped : (k : Kept) (s place : ℕ) (e : Event) (sites new : List Served) (out : Outputs) → s ≡ place + 1 → k.sites ≡ map site_of sites → (h : HasStepped place e sites new out)
+pub world_stepped : (k : Kept) (s place : ℕ) (e : Event) (sites new : List Served) (out : Outputs) → s ≡ place + 1 → k.sites ≡ map site_of sites
+    → (h : HasStepped place e sites new out)
     → after_at k s e ≡ record {
       sites = map site_of new;
       sent = k.sent ++ unmarked out.packets;

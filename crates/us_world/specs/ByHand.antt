@@ -8,7 +8,9 @@ use Rattle.us_history.specs.Histories.{Begun, Committed, History, has_own_vector
 
 -- of two of a session, the one with the lesser number has the lesser transaction and vector
 abbrev pub ascend_by_number : Committed → Committed → Bool
-ascend_by_number c d = not (session_eq c.begun.session d.begun.session && nat_lt c.number d.number) || (nat_lt c.begun.tid.seq d.begun.tid.seq && at_most c.vector d.vector)
+ascend_by_number c d =
+    not (session_eq c.begun.session d.begun.session && nat_lt c.number d.number) ||
+    (nat_lt c.begun.tid.seq d.begun.tid.seq && at_most c.vector d.vector)
 
 -- it isn't the transaction itself, or has no vector of its own, or isn't in its snapshot
 abbrev pub stays_out : Begun → Committed → Bool

@@ -123,5 +123,7 @@ pub record IsPassedAt (settings : Settings) (lines : List Numbered) (number : �
 -- the same lines have one world or one limit
 pub record OutcomesAreOne : Type 0 where
   pub worlds : (settings : Settings) (lines : List Numbered) (w v : World) → IsWorldOf settings lines w → IsWorldOf settings lines v → w ≡ v
-  pub limits : (settings : Settings) (lines : List Numbered) (n m : ℕ) (a b : WorldFault) → IsPassedAt settings lines n a → IsPassedAt settings lines m b → (n ≡ m) × (a ≡ b)
-  pub apart : (settings : Settings) (lines : List Numbered) (w : World) (n : ℕ) (a : WorldFault) → IsWorldOf settings lines w → IsPassedAt settings lines n a → ⊥
+  pub limits : (settings : Settings) (lines : List Numbered) (n m : ℕ) (a b : WorldFault) → IsPassedAt settings lines n a
+      → IsPassedAt settings lines m b → (n ≡ m) × (a ≡ b)
+  pub apart : (settings : Settings) (lines : List Numbered) (w : World) (n : ℕ) (a : WorldFault) → IsWorldOf settings lines w
+      → IsPassedAt settings lines n a → ⊥

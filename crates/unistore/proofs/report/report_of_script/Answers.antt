@@ -11,7 +11,8 @@ use Rattle.unistore.specs.Schedule.{settings_of}
 use Rattle.unistore.specs.Report.{IsReportOf}
 use Rattle.unistore.proofs.report.report_of_script.Goals as goal
 
-both : (script : Script) (result : Result Report LinesFault) → IfOk result (IsWorldReport (settings_of script.config) script.lines) → IfOk result (λ report. IsSound script.config.conflicts report.execution)
+both : (script : Script) (result : Result Report LinesFault) → IfOk result (IsWorldReport (settings_of script.config) script.lines)
+    → IfOk result (λ report. IsSound script.config.conflicts report.execution)
     → IfOk result (IsReportOf script)
 both script (Ok report) is sound = record { is = is; execution = sound }
 both script (Err e) is sound = tt
@@ -25,6 +26,7 @@ returns-clause-report c =
     (subst (λ (ls : List Numbered). IfOk c.report_of_lines.result (IsWorldReport parts.result.0 ls)) lines c.report_of_lines.ensures.report)
     in
     let sound : IfOk c.report_of_lines.result (λ report. IsSound c.args.script.config.conflicts report.execution) =
-    subst (λ (s : Settings). IfOk c.report_of_lines.result (λ report. IsSound s.conflicts report.execution)) parts.ensures.settings c.report_of_lines.ensures.sound
+    subst (λ (s : Settings). IfOk c.report_of_lines.result (λ report. IsSound s.conflicts report.execution)) parts.ensures.settings
+        c.report_of_lines.ensures.sound
     in
     both c.args.script c.report_of_lines.result is sound

@@ -10,4 +10,5 @@ returns g c =
     let t : SourceState = record { left = Some c.unistore.new.source; faults = 0 } in
     let k : SinkState = record { written = None; faults = 0 } in
     let l : SinkState = record { written = None; faults = 0 } in
-    sure_answer form c.args.bytes.items s t k l c.unistore.result (ap (λ (xs : List ℕ). let o : Option (List ℕ) = Some xs in o) c.new-source.ensures) refl refl refl refl c.unistore.ensures.answers
+    sure_answer form c.args.bytes.items s t k l c.unistore.result (ap (λ (xs : List ℕ). let o : Option (List ℕ) = Some xs in o) c.new-source.ensures)
+        refl refl refl refl c.unistore.ensures.answers
