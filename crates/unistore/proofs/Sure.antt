@@ -91,7 +91,7 @@ performed : (short : Bool) (k l : SinkState) (schedule : Schedule) (status : Sta
 performed short k l (Refused refusal) status z y h = refuses refusal k l status z y h
 performed short k l (Read script refused) status z y (inl h) =
     map_left (λ e. inr (record { line = h.line; passed = h.passed; pass = h.pass; is = e ∙ sym (ap (λ o. status_of_kind o h.line) h.kind) }))
-        (passed h.which h.line k l status z y h.says)
+    (passed h.which h.line k l status z y h.says)
 performed short k l (Read script None) status z y (inr (inl h)) =
     map_left (λ e. inl (record { world = h.is.is.world; is = h.is.is.reached }, e)) (tells short h.report k l status z y h.tells)
 performed short k l (Read script (Some refusal)) status z y (inr (inl h)) =
@@ -107,7 +107,7 @@ performs short bytes s t k l status told z y h =
     let whole : text ≡ bytes = given_whole bytes text t.left (sym told ∙ came.given) came.end in
     let fits : length bytes ≤ 2 ^ 28 = subst (λ (xs : List ℕ). length xs ≤ 2 ^ 28) whole came.within in
     map_left (λ e. inr (fits, e)) (performed short k l (schedule_of bytes) status z y
-        (subst (λ (xs : List ℕ). Performs short (schedule_of xs) k l status) whole h.performs))
+    (subst (λ (xs : List ℕ). Performs short (schedule_of xs) k l status) whole h.performs))
 
 -- too much came
 too_much : (short : Bool) (bytes : List ℕ) (s t : SourceState) (k l : SinkState) (status : Status) → s.left ≡ Some bytes → k.faults ≡ 0 → l.faults ≡ 0

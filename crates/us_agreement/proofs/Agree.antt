@@ -24,11 +24,11 @@ module _ {E : Type 0} (dec : IsDecided E) (f : ℕ) (p : Past E) (hist : History
   fronts : (xs ys : List E) → Chosen p xs → Chosen p ys → IsFront xs ys ⊎ IsFront ys xs
   fronts xs ys a b = ⊎_elim
       (λ (l : length xs ≤ length ys). inl (front_of xs ys l
-          (compare_chosen dec (sites f) p.starts p.logs p.choices p.told hist.starts hist.choices hist.started xs ys a b (length xs) (omega arith)
-          l)))
+      (compare_chosen dec (sites f) p.starts p.logs p.choices p.told hist.starts hist.choices hist.started xs ys a b (length xs) (omega arith)
+      l)))
       (λ (l : length ys < length xs). inr (front_of ys xs (omega arith)
-          (compare_chosen dec (sites f) p.starts p.logs p.choices p.told hist.starts hist.choices hist.started ys xs b a (length ys) (omega arith)
-          (omega arith))))
+      (compare_chosen dec (sites f) p.starts p.logs p.choices p.told hist.starts hist.choices hist.started ys xs b a (length ys) (omega arith)
+      (omega arith))))
       (le_or_lt (length xs) (length ys))
 
   module _ (d : Choice E) (here : In d p.choices) where
@@ -44,9 +44,9 @@ module _ {E : Type 0} (dec : IsDecided E) (f : ℕ) (p : Past E) (hist : History
     begins_with : (h : Start E) → In h p.starts → d.ballot < h.ballot → (length d.log ≤ length (initial h)) × Same (length d.log) (initial h) d.log
     begins_with h i above = ⊎_elim
         (λ (t : Same (length d.log) (initial h) (p.logs d.ballot)).
-            (same_length (length d.log) (initial h) (p.logs d.ballot) ok.within t, same_trans t (same_sym ok.same)))
+        (same_length (length d.log) (initial h) (p.logs d.ballot) ok.within t, same_trans t (same_sym ok.same)))
         (λ (t : Same (length d.log) (initial h) (p.logs d.ballot) → ⊥). absurd
-            (never (record { place = length d.log; by = h; le = omega arith; within = ok.within; here = i; above = above; differ = t })))
+        (never (record { place = length d.log; by = h; le = omega arith; within = ok.within; here = i; above = above; differ = t })))
         (decide_same dec (length d.log) (initial h) (p.logs d.ballot))
 
     above' : (a : ℕ) → IsStarted p.starts a → d.ballot ≤ a → (length d.log ≤ length (p.logs a)) × Same (length d.log) d.log (p.logs a)
@@ -83,7 +83,7 @@ module _ {E : Type 0} (dec : IsDecided E) (f : ℕ) (p : Past E) (hist : History
               ((g.acks d.ballot told.0 told.2).2 e))
               (λ (n : d.ballot ≡ c.accepted → ⊥). ⊎_elim
               (λ (w : length (initial g.log.start) ≤ length (whole c)). let e = g.log.is in let u = up
-                  in let b = (begins_with g.log.start g.log.here (omega arith)).0 in omega arith)
+              in let b = (begins_with g.log.start g.log.here (omega arith)).0 in omega arith)
               (λ bl. free c.accepted (length (whole c)) st up (omega arith) bl)
               g.log.long)
               (cases_eq d.ballot c.accepted)
@@ -105,9 +105,12 @@ module _ {E : Type 0} (dec : IsDecided E) (f : ℕ) (p : Past E) (hist : History
       let d = l.choice in
       let inside = some_below (at s).chosen slot e got in
       let many = (hist.choices d l.here).majority in
-      let size = length_sites 1 (2 * f + 1) in
-      (d.quorum, omega arith, λ x q. let w = l.long in (same d l.here x (at x) (sites_ok x) q (omega arith)).at slot (omega arith) ∙ sym
-          (l.same.at slot inside) ∙ got)
+      let size = length_sites 1 (2 * f + 1) in (
+        d.quorum,
+        omega arith,
+        λ x q. let w = l.long in (same d l.here x (at x) (sites_ok x) q (omega arith)).at slot (omega arith) ∙ sym
+            (l.same.at slot inside) ∙ got,
+      )
 
 pub lists_agree : {E : Type 0} (dec : IsDecided E) (f : ℕ) (w : World E) → WorldOk f w → (s t : ℕ)
     → IsFront (chosen_at w s) (chosen_at w t) ⊎ IsFront (chosen_at w t) (chosen_at w s)

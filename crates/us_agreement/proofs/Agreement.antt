@@ -35,5 +35,5 @@ module _ {E : Type 0} (eq : E → E → Bool) where
         let front = grow f hs more s in
         let still : slice_get (chosen_at (after eq f (hs ++ more)) s) slot ≡ Some e =
         ap (λ l. slice_get l slot) front.is ∙ get_front (chosen_at (after eq f hs) s) front.rest slot
-            (some_below (chosen_at (after eq f hs) s) slot e got) ∙ got in
+        (some_below (chosen_at (after eq f hs) s) slot e got) ∙ got in
         held_by_many (dec eq decides) f (after eq f (hs ++ more)) (every_run_ok eq decides f (hs ++ more)) s slot e still

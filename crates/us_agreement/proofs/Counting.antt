@@ -68,8 +68,8 @@ vows_count [] xs h a = omega arith
 vows_count (v ∷ vs) xs h a =
     let k = vows_count vs xs (λ u i. h u (inr i)) a.1 in
     let l =
-        count_more (vowed vs) (vowed (v ∷ vs)) xs v.site (λ z e. or_right (v.site == z) (vowed vs z) e) (h v (inl refl))
-        (or_left (v.site == v.site) (vowed vs v.site) (eq-eqb v.site v.site refl)) (vowed_not vs v.site a.0) in
+    count_more (vowed vs) (vowed (v ∷ vs)) xs v.site (λ z e. or_right (v.site == z) (vowed vs z) e) (h v (inl refl))
+    (or_left (v.site == v.site) (vowed vs v.site) (eq-eqb v.site v.site refl)) (vowed_not vs v.site a.0) in
     omega arith
 
 pub vowed_in : {E : Type 0} (vs : List (Vow E)) (z : ℕ) → vowed vs z ≡ true → (v : Vow E) × In v vs × (v.site ≡ z)
@@ -117,11 +117,11 @@ pub backers_count : (f s n : ℕ) (acks : List (Option ℕ)) → In s (sites f)
     → f < count (has s n acks) (sites f)
 backers_count f s n acks here h le =
     let others' =
-        placed n (acked n acks) acks 1 (2 * f + 1) (λ j t. let x = site_within 1 (2 * f + 1) (j + 1) (h j t).0 in let y = x.1
-        in (omega arith, shifted j t)) in
+    placed n (acked n acks) acks 1 (2 * f + 1) (λ j t. let x = site_within 1 (2 * f + 1) (j + 1) (h j t).0 in let y = x.1
+    in (omega arith, shifted j t)) in
     let more =
-        count_more (acked n acks) (has s n acks) (sites f) s (λ z e. or_right (z == s) (acked n acks z) e) here
-        (or_left (s == s) (acked n acks s) (eq-eqb s s refl)) (own (acked n acks s) refl) in
+    count_more (acked n acks) (has s n acks) (sites f) s (λ z e. or_right (z == s) (acked n acks z) e) here
+    (or_left (s == s) (acked n acks s) (eq-eqb s s refl)) (own (acked n acks s) refl) in
     omega arith
   where
     shifted : (j : ℕ) → at_least n (flat (slice_get acks j)) ≡ true → acked n acks (1 + j) ≡ true

@@ -115,8 +115,11 @@ module _ {E : Type 0} (app : List E) where
       let page : (e : E) → In e (take k c.tail) → In e app = λ e i. h.tail.known e (in_take k e c.tail i) in
       record {
         log =
-            record { chosen = λ e i. ⊎_elim (λ j. h.chosen e j) (λ j. page e j) (in_either e c.chosen (take k c.tail) i);
-            tail = drop_tail k c.tail h.tail; role = h.role };
+            record {
+              chosen = λ e i. ⊎_elim (λ j. h.chosen e j) (λ j. page e j) (in_either e c.chosen (take k c.tail) i);
+              tail = drop_tail k c.tail h.tail;
+              role = h.role;
+            };
         sends = to_all c (Learn (count c + 1) (take k c.tail)) page;
         grows = front_more c.chosen (take k c.tail);
       })
@@ -222,8 +225,10 @@ module _ {E : Type 0} (app : List E) where
   join_known c e i t h = record {
     chosen = h.chosen;
     tail =
-        record { short = (let x = ltb-true (length c.tail) WINDOW t in omega (arith, length-append c.tail (e ∷ [])));
-        known = in_push (λ y. In y app) c.tail e h.tail.known i };
+        record {
+          short = (let x = ltb-true (length c.tail) WINDOW t in omega (arith, length-append c.tail (e ∷ [])));
+          known = in_push (λ y. In y app) c.tail e h.tail.known i;
+        };
     role = h.role;
   }
 
@@ -238,8 +243,11 @@ module _ {E : Type 0} (app : List E) where
       cond_both (may_accept c from b) (tell_accepted (accept_in c slot e) from b slot) (dropped c) (λ (r : Stepped E). Yields app c r)
       (λ t. cond_both ((slot == held c + 1) && nat_lt (length c.tail) WINDOW) (joined c e) c (λ (d : BallotLog E). Yields app c (tell_accepted d from b slot))
       (λ u h. and_more c (joined c e) (tell_accepted (joined c e) from b slot).log [] (tell_accepted (joined c e) from b slot).out.sends
-      (record { log = join_known c e i (and_parts (slot == held c + 1) (nat_lt (length c.tail) WINDOW) u).1 h; sends = λ m j. absurd j;
-          grows = front_self c.chosen })
+      (record {
+        log = join_known c e i (and_parts (slot == held c + 1) (nat_lt (length c.tail) WINDOW) u).1 h;
+        sends = λ m j. absurd j;
+        grows = front_self c.chosen;
+      })
       (tell_grows (joined c e) from b slot))
       (λ u. tell_grows c from b slot))
       (λ t. rests c)
@@ -274,8 +282,11 @@ module _ {E : Type 0} (app : List E) where
       and_more c (learnt eq c more) (start (learnt eq c more)).log [] (start (learnt eq c more)).out.sends
       (record {
         log =
-            record { chosen = λ e i. ⊎_elim (λ j. h.chosen e j) (λ j. ok e (in_drop (known c first) e es j)) (in_either e c.chosen more i);
-            tail = trimmed_tail eq c.tail more h.tail; role = h.role };
+            record {
+              chosen = λ e i. ⊎_elim (λ j. h.chosen e j) (λ j. ok e (in_drop (known c first) e es j)) (in_either e c.chosen more i);
+              tail = trimmed_tail eq c.tail more h.tail;
+              role = h.role;
+            };
         sends = λ m i. absurd i;
         grows = front_more c.chosen more;
       })
@@ -309,7 +320,7 @@ module _ {E : Type 0} (app : List E) where
       cond_both (nat_lt c.f (length vows)) [] (map (λ j. (j, NewBallot c.ballot)) (missing c vows)) (λ l. In x l → MessageKnown app x.1)
       (λ t n. absurd n)
       (λ t k. let r = in_mapped (λ j. (j, NewBallot c.ballot)) x (missing c vows) k in let P : ℕ × BallotMessage E → Type 0 = λ y. MessageKnown app
-          y.1 in subst P r.2 tt)
+      y.1 in subst P r.2 tt)
       i
   repeats_known c h (Leads acks) x i = let r = in_gathered (λ j. repeated c j (ack_of acks j)) x (others c) i in repeated_known c h r.0 (ack_of acks r.0) x r.2
 
@@ -324,8 +335,11 @@ module _ {E : Type 0} (app : List E) where
   unfolding append
   append_grows c e i = cond_both (may_append c) (put_in c e) (dropped c) (λ (r : Stepped E). Yields app c r)
       (λ t h. and_more c (joined c e) (advance (joined c e)).log (to_others c (Accept c.ballot (held c + 1) e)) (advance (joined c e)).out.sends
-      (record { log = join_known c e i (and_parts _ (nat_lt (length c.tail) WINDOW) t).1 h; sends = to_all c (Accept c.ballot (held c + 1) e) i;
-          grows = front_self c.chosen })
+      (record {
+        log = join_known c e i (and_parts _ (nat_lt (length c.tail) WINDOW) t).1 h;
+        sends = to_all c (Accept c.ballot (held c + 1) e) i;
+        grows = front_self c.chosen;
+      })
       (advance_grows (joined c e)))
       (λ t. rests c)
 
@@ -395,7 +409,7 @@ module _ {E : Type 0} where
       (λ t.
       let app = w.appended ++ e ∷ [] in
       let k : WorldKnown app w.at w.sent =
-          record { logs = λ j. log_more w.appended e (w.at j) (h.logs j); sent = λ y i. message_more w.appended e y.message (h.sent y i) } in
+      record { logs = λ j. log_more w.appended e (w.at j) (h.logs j); sent = λ y i. message_more w.appended e y.message (h.sent y i) } in
       let l = append_grows app (w.at s) e (in_back e w.appended (e ∷ []) (inl refl)) (k.logs s) in
       record { known = stepped_known app w.at w.sent s (append (w.at s) e) k l; longer = stepped_longer w.at s (append (w.at s) e).log l.grows })
       (λ t. stays w h)

@@ -222,8 +222,12 @@ module _ {E : Type 0} (f : ℕ) (p p' : Past E) (s : ℕ) (o : Owes f p p' s) wh
   role_later j c Follows apart h = tt
   role_later j c (Collects vows) apart h = record { owns = h.owns; new = h.new; vows = λ v i. vow_later c.ballot v (h.vows v i); apart = h.apart; own = h.own }
   role_later j c (Leads acks) apart h =
-      record { owns = h.owns; same = h.same; leading = leading_later j c.ballot (whole c) apart h.owns h.leading;
-      acks = acks_later j c.ballot acks h.acks }
+      record {
+        owns = h.owns;
+        same = h.same;
+        leading = leading_later j c.ballot (whole c) apart h.owns h.leading;
+        acks = acks_later j c.ballot acks h.acks;
+      }
 
   pub site_later : (j : ℕ) (c : BallotLog E) → (j ≡ s → ⊥) → SiteOk f p j c → SiteOk f p' j c
   site_later j c apart h = record {
@@ -251,8 +255,8 @@ module _ {E : Type 0} (f : ℕ) (p p' : Past E) (s : ℕ) (o : Owes f p p' s) wh
   pub starts_kept : HistoryOk f p → StartsOk (sites f) p'.logs p'.choices p'.told p.starts
   starts_kept h = starts_later (sites f) p.logs p'.logs p.choices p'.choices p.told p'.told p.starts o.grows.longer o.grows.same o.grows.choices
       (λ x i b z n j. ⊎_elim (λ a. inl a) (λ (a : (z ≡ s) × (p.up s ≤ b)). inr
-          (λ q. let P : ℕ → Type 0 = λ y. x.quorum y ≡ true in let v = h.moved x i s (subst P a.0 q) in let w = a.1 in omega arith))
-          (o.new_acks b z n j))
+      (λ q. let P : ℕ → Type 0 = λ y. x.quorum y ≡ true in let v = h.moved x i s (subst P a.0 q) in let w = a.1 in omega arith))
+      (o.new_acks b z n j))
       h.starts
 
   pub choices_kept : HistoryOk f p → (c : Choice E) → In c p.choices → ChoiceOk (sites f) p'.logs p'.told c
@@ -265,5 +269,12 @@ module _ {E : Type 0} (f : ℕ) (p : Past E) (s : ℕ) where
   -- a step that leaves the history
   pub owes_nothing : Owes f p p s
   owes_nothing =
-      record { grows = grows_nowhere; told = λ a i. i; up = λ z. omega arith; new_acks = λ b z n i. inl i; new_starts = λ h i. inl i;
-      new_logs = λ b. inr refl; same_up = λ z n. refl }
+      record {
+        grows = grows_nowhere;
+        told = λ a i. i;
+        up = λ z. omega arith;
+        new_acks = λ b z n i. inl i;
+        new_starts = λ h i. inl i;
+        new_logs = λ b. inr refl;
+        same_up = λ z n. refl;
+      }

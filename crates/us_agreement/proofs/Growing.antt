@@ -82,8 +82,13 @@ module _ {E : Type 0} (dec : IsDecided E) (f : ℕ) (p : Past E) (hist : History
         past = p';
         owes = owes;
         history =
-            record { starts = starts_kept f p p' s owes hist; choices = choices_kept f p p' s owes hist; started = hist.started; empty = empty;
-            moved = hist.moved };
+            record {
+              starts = starts_kept f p p' s owes hist;
+              choices = choices_kept f p p' s owes hist;
+              started = hist.started;
+              empty = empty;
+              moved = hist.moved;
+            };
         site = record {
           f_is = g.f_is;
           site_is = g.site_is;
@@ -92,15 +97,22 @@ module _ {E : Type 0} (dec : IsDecided E) (f : ℕ) (p : Past E) (hist : History
           log = subst (LogIs p' c.accepted) (sym (one_more e)) (subst (λ a. LogIs p' a (whole c ++ e ∷ [])) (sym h.same) lf);
           chosen = chosen_later c.chosen owes.grows g.chosen;
           role =
-              subst (RoleOk f p' s c') (sym leads) (record { owns = h.owns; same = h.same;
-              leading = subst (IsLeading p' c.ballot) (sym (one_more e)) leading; acks = acks_later f p p' s owes s c.ballot acks h.acks });
+              subst (RoleOk f p' s c') (sym leads) (record {
+                owns = h.owns;
+                same = h.same;
+                leading = subst (IsLeading p' c.ballot) (sym (one_more e)) leading;
+                acks = acks_later f p p' s owes s c.ballot acks h.acks;
+              });
           owned = g.owned;
           acks = λ b n i.
               let x = ack_later c.accepted (whole c) b n owes.grows (g.acks b n i) in
               let y = longer e in
-              subst (λ l. AckIs p' c.accepted l b n) (sym (one_more e))
-                  (x.0, x.1, λ q. ⊎_elim (λ (z : n ≤ length (whole c)). inl (omega arith)) (λ z. inr (blocked_more (length (whole c ++ e ∷ [])) y z))
-                  (x.2 q));
+              subst (λ l. AckIs p' c.accepted l b n) (sym (one_more e)) (
+                x.0,
+                x.1,
+                λ q. ⊎_elim (λ (z : n ≤ length (whole c)). inl (omega arith)) (λ z. inr (blocked_more (length (whole c ++ e ∷ [])) y z))
+                    (x.2 q),
+              );
         };
         sends = to_others_ok f s here p' c g.f_is g.site_is (Accept c.ballot (held c + 1) e) (record {
           log = whole c ++ e ∷ [];
@@ -118,8 +130,13 @@ module _ {E : Type 0} (dec : IsDecided E) (f : ℕ) (p : Past E) (hist : History
   unfolding logs_past
   longer_facts logs' l grows le all =
       let m = log_later c.ballot (whole c) grows mine in
-      record { at_each = all; start = m.start; here = m.here; is = m.is;
-          long = ⊎_elim (λ (a : length (initial m.start) ≤ length (whole c)). inl (omega arith)) (λ x. inr (blocked_more (length l) le x)) m.long }
+      record {
+        at_each = all;
+        start = m.start;
+        here = m.here;
+        is = m.is;
+        long = ⊎_elim (λ (a : length (initial m.start) ≤ length (whole c)). inl (omega arith)) (λ x. inr (blocked_more (length l) le x)) m.long;
+      }
 
   pub append_step : (e : E) → Step f p s (record c { tail = c.tail ++ e ∷ [] }) (to_others c (Accept c.ballot (held c + 1) e))
   unfolding logs_past
@@ -130,21 +147,21 @@ module _ {E : Type 0} (dec : IsDecided E) (f : ℕ) (p : Past E) (hist : History
           let l = whole c ++ e ∷ [] in
           let at = put_same p.logs c.ballot l in
           let grows =
-              put_grows p.starts p.logs p.choices c.ballot l (let x = a.0 in let y = longer e in omega arith)
-              (same_trans (same_sym a.1) (same_sym (same_less _ a.0 (same_front (whole c) (e ∷ []))))) in
+          put_grows p.starts p.logs p.choices c.ballot l (let x = a.0 in let y = longer e in omega arith)
+          (same_trans (same_sym a.1) (same_sym (same_less _ a.0 (same_front (whole c) (e ∷ []))))) in
           append_at e (put p.logs c.ballot l) (logs_owes (put p.logs c.ballot l) grows (own_logs l))
           (longer_facts (put p.logs c.ballot l) l grows (longer e)
-              (λ n le. let P : List E → Type 0 = λ y. (n ≤ length y) × Same n l y in let r = subst P (sym at) (le, same_refl n l) in is_own r.0 r.1))
+          (λ n le. let P : List E → Type 0 = λ y. (n ≤ length y) × Same n l y in let r = subst P (sym at) (le, same_refl n l) in is_own r.0 r.1))
           (let P : List E → Type 0 = λ y. (length y ≤ length l) × Same (length y) l y in inl (subst P (sym at) (omega arith, same_refl _ l)))
           (own_empty l)
       on (inr bl) =
           let l = whole c ++ e ∷ [] in
           let grows : Grows p.starts p.starts p.logs p.logs p.choices p.choices =
-              record { starts = λ h i. i; longer = λ b. omega arith; same = λ b. same_refl _ (p.logs b); choices = λ c i. i } in
+          record { starts = λ h i. i; longer = λ b. omega arith; same = λ b. same_refl _ (p.logs b); choices = λ c i. i } in
           append_at e p.logs (logs_owes p.logs grows (λ x. inr refl))
           (longer_facts p.logs l grows (longer e) (λ n le. ⊎_elim
           (λ (a : n ≤ length (whole c)). log_ok_same p.starts p.logs p.choices c.ballot l (whole c) n (same_less n a (same_front (whole c) (e ∷ [])))
-              (mine.at_each n a))
+          (mine.at_each n a))
           (λ (a : length (whole c) < n). is_blocked (blocked_more n (omega arith) bl))
           (le_or_lt n (length (whole c)))))
           (inr (blocked_more _ (longer e) bl))
@@ -193,8 +210,12 @@ module _ {E : Type 0} (dec : IsDecided E) (f : ℕ) (p : Past E) (hist : History
     backed : (z : ℕ) → has s n acks z ≡ true → (m : ℕ) × (n ≤ m) × In (Ack c.ballot z m) told'
     unfolding n told'
     backed z e = ⊎_elim
-        (λ (a : (z == s) ≡ true). let q = eqb-true z s a in (length (whole c), within, inl
-            (let P : ℕ → Type 0 = λ y. Ack c.ballot s (length (whole c)) ≡ Ack c.ballot y (length (whole c)) in subst P (sym q) refl)))
+        (λ (a : (z == s) ≡ true). let q = eqb-true z s a in (
+          length (whole c),
+          within,
+          inl
+              (let P : ℕ → Type 0 = λ y. Ack c.ballot s (length (whole c)) ≡ Ack c.ballot y (length (whole c)) in subst P (sym q) refl),
+        ))
         (λ (a : acked (length c.chosen + k) acks z ≡ true).
         let b = and_parts (nat_lt 0 z) (at_least (length c.chosen + k) (ack_of acks z)) a in on (slice_get acks (z - 1)) refl (ltb-true 0 z b.0) b.1)
         (or_cases (z == s) (acked (length c.chosen + k) acks z) e)
@@ -213,7 +234,7 @@ module _ {E : Type 0} (dec : IsDecided E) (f : ℕ) (p : Past E) (hist : History
     never bl =
         let t = told_history dec f p hist s here c g (length (whole c)) in
         not_blocked dec (sites f) p.logs p.choices told' t.choices p.starts t.starts c.ballot n (has s n acks)
-            (record { majority = majority; acks = λ z e _. backed z e }) bl
+        (record { majority = majority; acks = λ z e _. backed z e }) bl
 
     -- where its ballot is blocked behind, the leader holds the ballot's log so far
     at_n : Blocked p.starts p.logs c.ballot (length (whole c)) → LogOk p.starts p.logs p.choices c.ballot (whole c) n
@@ -221,11 +242,21 @@ module _ {E : Type 0} (dec : IsDecided E) (f : ℕ) (p : Past E) (hist : History
     at_n bl (is_own le same) = (le, same)
     at_n bl (is_blocked x) = absurd (never x)
     at_n bl (is_learned d i lt le same) = ⊎_elim
-        (λ (a : n ≤ length (p.logs c.ballot)). (a, ⊎_elim (λ t. same_trans same t) (λ x. absurd (never x))
-            (against dec (sites f) p.starts p.logs p.choices p.told hist.starts hist.choices hist.started d i c.ballot n begun le a)))
+        (λ (a : n ≤ length (p.logs c.ballot)). (
+          a,
+          ⊎_elim (λ t. same_trans same t) (λ x. absurd (never x))
+              (against dec (sites f) p.starts p.logs p.choices p.told hist.starts hist.choices hist.started d i c.ballot n begun le a),
+        ))
         (λ (a : length (p.logs c.ballot) < n). absurd (never
-            (let x = bl.within in record { place = bl.place; by = bl.by; le = omega arith; within = bl.within; here = bl.here; above = bl.above;
-            differ = bl.differ })))
+        (let x = bl.within in record {
+          place = bl.place;
+          by = bl.by;
+          le = omega arith;
+          within = bl.within;
+          here = bl.here;
+          above = bl.above;
+          differ = bl.differ;
+        })))
         (le_or_lt n (length (p.logs c.ballot)))
 
     choice : Choice E
@@ -268,7 +299,7 @@ module _ {E : Type 0} (dec : IsDecided E) (f : ℕ) (p : Past E) (hist : History
         let o = chosen_owes logs' grows own in
         let c' : BallotLog E = record c { chosen = c.chosen ++ take k c.tail; tail = drop k c.tail } in
         let ok : Chosen p' (c.chosen ++ take k c.tail) =
-            record { choice = choice; here = inl refl; started = begun; long = omega arith; same = same_refl _ _ } in
+        record { choice = choice; here = inl refl; started = begun; long = omega arith; same = same_refl _ _ } in
         record {
           past = p';
           owes = o;
@@ -289,12 +320,16 @@ module _ {E : Type 0} (dec : IsDecided E) (f : ℕ) (p : Past E) (hist : History
             log = subst (LogIs p' c.accepted) (sym parted) (log_later c.accepted (whole c) o.grows g.log);
             chosen = ok;
             role =
-                subst (RoleOk f p' s c') (sym leads) (record { owns = h.owns; same = h.same;
-                leading = subst (IsLeading p' c.ballot) (sym parted) leading; acks = acks_later f p p' s o s c.ballot acks h.acks });
+                subst (RoleOk f p' s c') (sym leads) (record {
+                  owns = h.owns;
+                  same = h.same;
+                  leading = subst (IsLeading p' c.ballot) (sym parted) leading;
+                  acks = acks_later f p p' s o s c.ballot acks h.acks;
+                });
             owned = g.owned;
             acks = λ b m i. subst (λ y. AckIs p' c.accepted y b m) (sym parted) (⊎_elim
                 (λ (e : Ack c.ballot s (length (whole c)) ≡ Ack b s m). let x : c.ballot ≡ b = cc in let y : length (whole c) ≡ m = cc
-                    in let z = h.same in (omega arith, subst (IsStarted p.starts) x begun, λ q. inl (omega arith)))
+                in let z = h.same in (omega arith, subst (IsStarted p.starts) x begun, λ q. inl (omega arith)))
                 (λ j. ack_later c.accepted (whole c) b m o.grows (g.acks b m j)) i);
           };
           sends = to_others_ok f s here p' c g.f_is g.site_is (Learn (count c + 1) (take k c.tail)) (record {
@@ -316,7 +351,7 @@ module _ {E : Type 0} (dec : IsDecided E) (f : ℕ) (p : Past E) (hist : History
         on (inr bl) =
             let r = at_n bl (mine.at_each n within) in
             let grows : Grows p.starts p.starts p.logs p.logs p.choices p.choices =
-                record { starts = λ h i. i; longer = λ b. omega arith; same = λ b. same_refl _ (p.logs b); choices = λ c i. i } in
+            record { starts = λ h i. i; longer = λ b. omega arith; same = λ b. same_refl _ (p.logs b); choices = λ c i. i } in
             advance_at p.logs grows (λ x. inr refl) r.0 r.1 (inr bl) hist.empty
         on (inl a) =
             let at = put_same p.logs c.ballot (whole c) in
@@ -324,4 +359,4 @@ module _ {E : Type 0} (dec : IsDecided E) (f : ℕ) (p : Past E) (hist : History
             let Q : List E → Type 0 = λ y. (length y ≤ length (whole c)) × Same (length y) (whole c) y in
             let r = subst P (sym at) (within, same_refl n _) in
             advance_at (put p.logs c.ballot (whole c)) (put_grows p.starts p.logs p.choices c.ballot (whole c) a.0 (same_sym a.1))
-                (own_logs (whole c)) r.0 r.1 (inl (subst Q (sym at) (omega arith, same_refl _ _))) (own_empty (whole c))
+            (own_logs (whole c)) r.0 r.1 (inl (subst Q (sym at) (omega arith, same_refl _ _))) (own_empty (whole c))

@@ -36,8 +36,13 @@ module _ {E : Type 0} where
   pub chosen_later : {hs hs' : List (Start E)} {logs logs' : ℕ → List E} {cs cs' : List (Choice E)} (l : List E) → Grows hs hs' logs logs' cs cs'
       → IsChosen hs cs l → IsChosen hs' cs' l
   chosen_later l g p =
-      record { choice = p.choice; here = g.choices p.choice p.here; started = started_later p.choice.ballot g p.started; long = p.long;
-      same = p.same }
+      record {
+        choice = p.choice;
+        here = g.choices p.choice p.here;
+        started = started_later p.choice.ballot g p.started;
+        long = p.long;
+        same = p.same;
+      }
 
   pub blocked_later : {hs hs' : List (Start E)} {logs logs' : ℕ → List E} {cs cs' : List (Choice E)} (b n : ℕ) → Grows hs hs' logs logs' cs cs'
       → Blocked hs logs b n → Blocked hs' logs' b n
@@ -105,9 +110,10 @@ module _ {E : Type 0} where
       → ((h : Start E) → In h hs → (b z n : ℕ) → In (Ack b z n) told' → In (Ack b z n) told ⊎ (h.quorum z ≡ true → h.ballot ≤ b))
       → StartsOk sites logs cs told hs → StartsOk sites logs' cs' told' hs
   starts_later sites logs logs' cs cs' told told' [] l s c new ok = tt
-  starts_later sites logs logs' cs cs' told told' (h ∷ hs) l s c new ok =
-      (start_later sites logs logs' cs cs' told told' h hs (record { starts = λ x i. i; longer = l; same = s; choices = c }) (new h (inl refl)) ok.0,
-          starts_later sites logs logs' cs cs' told told' hs l s c (λ x i. new x (inr i)) ok.1)
+  starts_later sites logs logs' cs cs' told told' (h ∷ hs) l s c new ok = (
+    start_later sites logs logs' cs cs' told told' h hs (record { starts = λ x i. i; longer = l; same = s; choices = c }) (new h (inl refl)) ok.0,
+    starts_later sites logs logs' cs cs' told told' hs l s c (λ x i. new x (inr i)) ok.1,
+  )
 
   pub choice_later : (sites : List ℕ) (logs logs' : ℕ → List E) (told told' : List Acknowledgement) (c : Choice E)
       → ((b : ℕ) → length (logs b) ≤ length (logs' b)) → ((b : ℕ) → Same (length (logs b)) (logs b) (logs' b))

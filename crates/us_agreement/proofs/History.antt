@@ -106,7 +106,7 @@ module _ {E : Type 0} where
         let f = starts_in sites logs cs told hs st.start ok st.here in
         let long = same_length m (initial st.start) (logs b) within s in
         let g : Same (length (initial st.start)) (initial st.start) (logs c.ballot) =
-            (let P : ℕ → Type 0 = λ k. Same (length (initial st.start)) (initial st.start) (logs k) in subst P st.is f.1) in
+        (let P : ℕ → Type 0 = λ k. Same (length (initial st.start)) (initial st.start) (logs k) in subst P st.is f.1) in
         differ (same_trans (same_less m le cok.same) (same_trans (same_sym (same_less m long g)) s));
   }
 
@@ -129,11 +129,18 @@ module _ {E : Type 0} (dec : IsDecided E) where
       → c.ballot ≤ b → (length c.log ≤ length (logs b)) × Same (length c.log) c.log (logs b)
   choice_above sites logs cs told hs ok free c cok b st le = ⊎_elim
       (λ (e : c.ballot ≡ b). let P : ℕ → Type 0 = λ x. (length c.log ≤ length (logs x)) × Same (length c.log) c.log (logs x) in subst P e
-          (cok.within, cok.same))
+      (cok.within, cok.same))
       (λ (n : c.ballot ≡ b → ⊥). ⊎_elim (λ s. at_greater n s)
-          (λ d. absurd (free c.ballot (length c.log) c.quorum (acked_choice sites logs told c cok)
-          (record { place = length c.log; by = st.start; le = omega arith; within = cok.within; here = st.here;
-          above = (let e = st.is in omega arith); differ = d }))) (decide_same dec (length c.log) (initial st.start) (logs c.ballot)))
+      (λ d. absurd (free c.ballot (length c.log) c.quorum (acked_choice sites logs told c cok)
+      (record {
+        place = length c.log;
+        by = st.start;
+        le = omega arith;
+        within = cok.within;
+        here = st.here;
+        above = (let e = st.is in omega arith);
+        differ = d;
+      }))) (decide_same dec (length c.log) (initial st.start) (logs c.ballot)))
       (cases_eq c.ballot b)
     where
       at_greater : (c.ballot ≡ b → ⊥) → Same (length c.log) (initial st.start) (logs c.ballot)
@@ -189,11 +196,11 @@ module _ {E : Type 0} (dec : IsDecided E) where
       by_prefix st best (inr p) = ⊎_elim
           (λ (a : b < p.choice.ballot). ⊎_elim
           (λ (l : m ≤ length h.prefix). ⊎_elim (λ s. differ (same_trans (front m l) s))
-              (λ d. again m le (blocked_by_choice sites logs cs told hs p.choice b m oks (choices p.choice p.here) p.started a
-              (let x = p.long in omega arith) within d)) (decide_same dec m p.choice.log (logs b)))
+          (λ d. again m le (blocked_by_choice sites logs cs told hs p.choice b m oks (choices p.choice p.here) p.started a
+          (let x = p.long in omega arith) within d)) (decide_same dec m p.choice.log (logs b)))
           (λ (l : length h.prefix < m). ⊎_elim (λ s. at_best (λ t. differ (both l s t)) best)
-              (λ d. again (length h.prefix) (omega arith) (blocked_by_choice sites logs cs told hs p.choice b (length h.prefix) oks
-              (choices p.choice p.here) p.started a p.long (omega arith) d)) (decide_same dec (length h.prefix) p.choice.log (logs b)))
+          (λ d. again (length h.prefix) (omega arith) (blocked_by_choice sites logs cs told hs p.choice b (length h.prefix) oks
+          (choices p.choice p.here) p.started a p.long (omega arith) d)) (decide_same dec (length h.prefix) p.choice.log (logs b)))
           (le_or_lt m (length h.prefix)))
           (λ (a : p.choice.ballot ≤ b).
           let f = choice_above sites logs cs told hs oks free p.choice (choices p.choice p.here) b st a in
@@ -225,7 +232,7 @@ module _ {E : Type 0} (dec : IsDecided E) where
       let free = not_blocked sites logs cs told choices hs ok.1 in
       ⊎_elim
       (λ (e : h ≡ bl.by). let P : Start E → Type 0 = λ x. (b < x.ballot) × (Same bl.place (initial x) (logs b) → ⊥) in let f = subst P (sym e)
-          (bl.above, bl.differ) in block_step sites logs cs told choices h hs ok.0 ok.1 free b n q acked bl.place bl.le bl.within f.0 f.1)
+      (bl.above, bl.differ) in block_step sites logs cs told choices h hs ok.0 ok.1 free b n q acked bl.place bl.le bl.within f.0 f.1)
       (λ i. free b n q acked (record { place = bl.place; by = bl.by; le = bl.le; within = bl.within; here = i; above = bl.above; differ = bl.differ }))
       bl.here
 
@@ -235,6 +242,6 @@ module _ {E : Type 0} (dec : IsDecided E) where
       → IsStarted hs c.ballot → IsStarted hs d.ballot → length c.log ≤ length d.log → Same (length c.log) c.log d.log
   comparable sites logs cs told hs ok free c d cok dok cst dst le = ⊎_elim
       (λ (l : c.ballot < d.ballot). same_trans (choice_above sites logs cs told hs ok free c cok d.ballot dst (omega arith)).1
-          (same_sym (same_less _ le dok.same)))
+      (same_sym (same_less _ le dok.same)))
       (λ (l : d.ballot ≤ c.ballot). same_trans cok.same (same_sym (same_less _ le (choice_above sites logs cs told hs ok free d dok c.ballot cst l).1)))
       (cases_lt c.ballot d.ballot)

@@ -90,7 +90,7 @@ module _ {E : Type 0} (dec : IsDecided E) (f s : ℕ) (here : In s (sites f)) (x
       let pass : nat_le c.f (backers acks (count c + ready c acks)) ≡ true = most_passes (λ k. nat_le c.f (backers acks (count c + k))) (length c.tail) some in
       let enough : c.f ≤ backers acks (count c + ready c acks) = leb-true _ _ pass in
       advance_step dec f p hist s here c g acks e (subst (RoleOk f p s c) e g.role) (ready c acks) some
-          (most_fits (λ k. nat_le c.f (backers acks (count c + k))) (length c.tail))
+      (most_fits (λ k. nat_le c.f (backers acks (count c + k))) (length c.tail))
       (subst (λ x. x ≤ backers acks (count c + ready c acks)) g.f_is enough)
 
   pub advance_does : (c : BallotLog E) → Does f s xs c (advance c)
@@ -108,7 +108,7 @@ module _ {E : Type 0} (dec : IsDecided E) (f s : ℕ) (here : In s (sites f)) (x
       let h : CollectOk f p s c (v ∷ vs) = subst (RoleOk f p s c) e g.role in
       let less = ltb-true (count c) (best v vs).base t in
       sends_alone f p hist s here c g (((best v vs).site, CatchUp (count c)) ∷ [])
-          (to_one_ok f s here p (best v vs).site (CatchUp (count c)) (λ q. let x = h.own (best v vs) (best_in v vs) q in absurd (omega arith)) tt)))
+      (to_one_ok f s here p (best v vs).site (CatchUp (count c)) (λ q. let x = h.own (best v vs) (best_in v vs) q in absurd (omega arith)) tt)))
       (λ t. and_then f s xs c (led c (best v vs)) _ _ _
       (by_step f s xs c _ _ (λ p hist g given.
       let h : CollectOk f p s c (v ∷ vs) = subst (RoleOk f p s c) e g.role in
@@ -200,7 +200,7 @@ module _ {E : Type 0} (dec : IsDecided E) (f s : ℕ) (here : In s (sites f)) (x
   promise_does c b v told apart = cond_both (may_promise c v.site b c.role) (start (recorded c v)) (dropped c) (λ (r : Stepped E). Does f s xs c r)
       (λ t. and_then f s xs c (recorded c v) (start (recorded c v)).log [] (start (recorded c v)).out.sends
       (by_step f s xs c (recorded c v) [] (λ p hist g given. with_role f p hist s here c g (with_vow c.role v)
-          (vow_role c p g b v (told p given) apart c.role g.role t)))
+      (vow_role c p g b v (told p given) apart c.role g.role t)))
       (start_does (recorded c v)))
       (λ t. nothing_keeps f s xs c)
 
@@ -223,13 +223,13 @@ module _ {E : Type 0} (dec : IsDecided E) (f s : ℕ) (here : In s (sites f)) (x
       cond_both (nat_lt (count c) base) (sending c ((from, CatchUp (count c)) ∷ [])) (acknowledging (restated c c.ballot base tail) from c.ballot)
       (λ (r : Stepped E). Does f s xs c r)
       (λ t. by_step f s xs c c ((from, CatchUp (count c)) ∷ [])
-          (λ p hist g given. sends_alone f p hist s here c g ((from, CatchUp (count c)) ∷ [])
-          (to_one_ok f s here p from (CatchUp (count c)) apart tt)))
+      (λ p hist g given. sends_alone f p hist s here c g ((from, CatchUp (count c)) ∷ [])
+      (to_one_ok f s here p from (CatchUp (count c)) apart tt)))
       (λ t. cond_both (nat_lt c.accepted c.ballot) (record c { tail = drop (count c - base) tail; accepted = c.ballot }) c
-          (λ (d : BallotLog E). Does f s xs c (acknowledging d from c.ballot))
+      (λ (d : BallotLog E). Does f s xs c (acknowledging d from c.ballot))
       (λ u. and_then f s xs c (record c { tail = drop (count c - base) tail; accepted = c.ballot })
-          (record c { tail = drop (count c - base) tail; accepted = c.ballot }) []
-          ((from, Accepted c.ballot (held (record c { tail = drop (count c - base) tail; accepted = c.ballot }))) ∷ [])
+      (record c { tail = drop (count c - base) tail; accepted = c.ballot }) []
+      ((from, Accepted c.ballot (held (record c { tail = drop (count c - base) tail; accepted = c.ballot }))) ∷ [])
       (by_step f s xs c (record c { tail = drop (count c - base) tail; accepted = c.ballot }) [] (λ p hist g given. record {
         past = p;
         owes = owes_nothing f p s;
@@ -366,7 +366,7 @@ module _ {E : Type 0} (dec : IsDecided E) (f s : ℕ) (here : In s (sites f)) (x
       (λ (r : Stepped E). Does f s xs c r)
       (λ t. by_step f s xs c c ((from, Learn (n + 1) (take WINDOW (drop n c.chosen))) ∷ []) (λ p hist g given.
       sends_alone f p hist s here c g ((from, Learn (n + 1) (take WINDOW (drop n c.chosen))) ∷ [])
-          (to_one_ok f s here p from (Learn (n + 1) (take WINDOW (drop n c.chosen))) apart (page_ok c p g n (ltb-true n (count c) t)))))
+      (to_one_ok f s here p from (Learn (n + 1) (take WINDOW (drop n c.chosen))) apart (page_ok c p g n (ltb-true n (count c) t)))))
       (λ t. nothing_keeps f s xs c)
 
   -- APPEND
@@ -381,7 +381,7 @@ module _ {E : Type 0} (dec : IsDecided E) (f s : ℕ) (here : In s (sites f)) (x
   append_does c e = cond_both (may_append c) (put_in c e) (dropped c) (λ (r : Stepped E). Does f s xs c r)
       (λ t. and_then f s xs c (joined c e) (advance (joined c e)).log (to_others c (Accept c.ballot (held c + 1) e)) (advance (joined c e)).out.sends
       (by_step f s xs c (joined c e) (to_others c (Accept c.ballot (held c + 1) e))
-          (λ p hist g given. append_in c e c.role refl (and_parts (leads c.role) (nat_lt (length c.tail) WINDOW) t).0 p hist g))
+      (λ p hist g given. append_in c e c.role refl (and_parts (leads c.role) (nat_lt (length c.tail) WINDOW) t).0 p hist g))
       (advance_does (joined c e)))
       (λ t. nothing_keeps f s xs c)
 
@@ -391,7 +391,7 @@ module _ {E : Type 0} (dec : IsDecided E) (f s : ℕ) (here : In s (sites f)) (x
   missing_ok c p g q m ok x i =
       let r = in_mapped (λ j. (j, m)) x (filter q (others c)) i in
       to_others_ok f s here p c g.f_is g.site_is m ok x (subst (λ y. In y (to_others c m)) r.2
-          (in_map (λ j. (j, m)) r.0 (others c) (in_filter q r.0 (others c) r.1).0))
+      (in_map (λ j. (j, m)) r.0 (others c) (in_filter q r.0 (others c) r.1).0))
 
   accepts_ok : (c : BallotLog E) (p : Past E) (j b slot : ℕ) (es : List E) → (s ≡ j → ⊥)
       → ((k : ℕ) (e : E) → slice_get es k ≡ Some e → AcceptOk p b (slot + k) e) → (x : ℕ × BallotMessage E) → In x (accepts j b slot es)
@@ -403,7 +403,7 @@ module _ {E : Type 0} (dec : IsDecided E) (f s : ℕ) (here : In s (sites f)) (x
       subst P q (record { here = here; apart = apart; message = subst (λ y. AcceptOk p b y e) z (ok 0 e refl) })
   accepts_ok c p j b slot (e ∷ es) apart ok x (inr i) =
       accepts_ok c p j b (slot + 1) es apart (λ k d q. let z : slot + suc k ≡ slot + 1 + k = omega arith in subst (λ y. AcceptOk p b y d) z
-          (ok (suc k) d q)) x i
+      (ok (suc k) d q)) x i
 
   repeated_ok : (c : BallotLog E) (p : Past E) → SiteOk f p s c → c.accepted ≡ c.ballot → (j : ℕ) → In j (others c) → (o : Option ℕ)
       → (x : ℕ × BallotMessage E) → In x (repeated c j o) → SentOk f p (record { from = s; to = x.0; message = x.1 })
@@ -464,8 +464,8 @@ module _ {E : Type 0} (dec : IsDecided E) (f s : ℕ) (here : In s (sites f)) (x
     not_at_front : (c : BallotLog E) (es : List E) → starts_with eq c.tail es ≡ false → Same (length (c.chosen ++ es)) (whole c) (c.chosen ++ es) → ⊥
     not_at_front c es t same =
         let reads : (k : ℕ) → k < length es → slice_get c.tail k ≡ slice_get es k =
-            λ k l. sym (get_back c.chosen c.tail k) ∙ same.at (length c.chosen + k) (omega (arith, length-append c.chosen es)) ∙ get_back c.chosen es
-            k in
+        λ k l. sym (get_back c.chosen c.tail k) ∙ same.at (length c.chosen + k) (omega (arith, length-append c.chosen es)) ∙ get_back c.chosen es
+        k in
         let e = (starts_is decides c.tail es (starts_with eq c.tail es) refl).1 (drop (length es) c.tail) (reads_front es c.tail reads) in
         true≢false (sym e ∙ t)
 
@@ -476,15 +476,15 @@ module _ {E : Type 0} (dec : IsDecided E) (f s : ℕ) (here : In s (sites f)) (x
         cond_both (starts_with eq c.tail es) (drop (length es) c.tail) []
         (λ tail. Does f s xs c (before [] es (start (record c { chosen = c.chosen ++ es; tail = tail }))))
         (λ t. and_then f s xs c (record c { chosen = c.chosen ++ es; tail = drop (length es) c.tail })
-            (start (record c { chosen = c.chosen ++ es; tail = drop (length es) c.tail })).log []
-            (start (record c { chosen = c.chosen ++ es; tail = drop (length es) c.tail })).out.sends
+        (start (record c { chosen = c.chosen ++ es; tail = drop (length es) c.tail })).log []
+        (start (record c { chosen = c.chosen ++ es; tail = drop (length es) c.tail })).out.sends
         (by_step f s xs c (record c { chosen = c.chosen ++ es; tail = drop (length es) c.tail }) []
-            (λ p hist g given. learn_front dec f p hist s here c g es (told p hist g given) (at_front c es t)))
+        (λ p hist g given. learn_front dec f p hist s here c g es (told p hist g given) (at_front c es t)))
         (start_does (record c { chosen = c.chosen ++ es; tail = drop (length es) c.tail })))
         (λ t. and_then f s xs c (record c { chosen = c.chosen ++ es; tail = [] }) (start (record c { chosen = c.chosen ++ es; tail = [] })).log []
-            (start (record c { chosen = c.chosen ++ es; tail = [] })).out.sends
+        (start (record c { chosen = c.chosen ++ es; tail = [] })).out.sends
         (by_step f s xs c (record c { chosen = c.chosen ++ es; tail = [] }) []
-            (λ p hist g given. learn_apart dec f p hist s here c g es (told p hist g given) (not_at_front c es t)))
+        (λ p hist g given. learn_apart dec f p hist s here c g es (told p hist g given) (not_at_front c es t)))
         (start_does (record c { chosen = c.chosen ++ es; tail = [] })))
 
     pub learn_does : (c : BallotLog E) (first : ℕ) (es : List E) → ((p : Past E) → ((x : Sent E) → In x xs → SentOk f p x) → LearnOk p first es)
@@ -494,7 +494,7 @@ module _ {E : Type 0} (dec : IsDecided E) (f s : ℕ) (here : In s (sites f)) (x
         (λ t.
         let k = and_parts (nat_le (first - 1) (count c)) (nat_lt (known c first) (length es)) t in
         learn_with c (drop (known c first) es) (λ p hist g given. page_chosen dec f p hist s here c g first es (told p given)
-            (leb-true (first - 1) (count c) k.0) (ltb-true (known c first) (length es) k.1)))
+        (leb-true (first - 1) (count c) k.0) (ltb-true (known c first) (length es) k.1)))
         (λ t. nothing_keeps f s xs c)
 
     -- ANY MESSAGE that was sent here

@@ -29,8 +29,10 @@ module _ {E : Type 0} where
 
   merged-same : (p l : List E) (n : ℕ) → Same (length p) p l → Same n (merged p l) l
   merged-same p l n s =
-      record { at = λ k h. ⊎_elim (λ (a : k < length p). (merged-front p l).at k a ∙ s.at k a) (λ (a : length p ≤ k). merged-back p l k a)
-      (cases_lt k (length p)) }
+      record {
+        at = λ k h. ⊎_elim (λ (a : k < length p). (merged-front p l).at k a ∙ s.at k a) (λ (a : length p ≤ k). merged-back p l k a)
+            (cases_lt k (length p));
+      }
 
 module _ {E : Type 0} (dec : IsDecided E) (sites : List ℕ) (hs : List (Start E)) (logs : ℕ → List E) (cs : List (Choice E))
     (told : List Acknowledgement) (ok : StartsOk sites logs cs told hs) (choices : (c : Choice E) → In c cs → ChoiceOk sites logs told c)
@@ -44,16 +46,16 @@ module _ {E : Type 0} (dec : IsDecided E) (sites : List ℕ) (hs : List (Start E
   pub compare : (c d : Choice E) → In c cs → In d cs → (n : ℕ) → n ≤ length c.log → n ≤ length d.log → Same n c.log d.log
   compare c d i j n l k = ⊎_elim
       (λ (a : length c.log ≤ length d.log). same_less n l
-          (comparable dec sites logs cs told hs ok free c d (choices c i) (choices d j) (started c i) (started d j) a))
+      (comparable dec sites logs cs told hs ok free c d (choices c i) (choices d j) (started c i) (started d j) a))
       (λ (a : length d.log < length c.log). same_sym (same_less n k
-          (comparable dec sites logs cs told hs ok free d c (choices d j) (choices c i) (started d j) (started c i) (omega arith))))
+      (comparable dec sites logs cs told hs ok free d c (choices d j) (choices c i) (started d j) (started c i) (omega arith))))
       (le_or_lt (length c.log) (length d.log))
 
   -- a choice against the log of a ballot
   pub against : (c : Choice E) → In c cs → (b n : ℕ) → IsStarted hs b → n ≤ length c.log → n ≤ length (logs b) → Same n c.log (logs b) ⊎ Blocked hs logs b n
   against c i b n st l w = ⊎_elim
       (λ (a : b < c.ballot). ⊎_elim (λ s. inl s) (λ d. inr (blocked_by_choice sites logs cs told hs c b n ok (choices c i) (started c i) a l w d))
-          (decide_same dec n c.log (logs b)))
+      (decide_same dec n c.log (logs b)))
       (λ (a : c.ballot ≤ b). inl (same_less n l (above c i b st a).1))
       (cases_lt b c.ballot)
 
@@ -99,7 +101,7 @@ module _ {E : Type 0} (dec : IsDecided E) (sites : List ℕ) (hs : List (Start E
     long = ⊎_elim
         (λ (w : length l ≤ length log). inr (short_learn a log h l p apart w))
         (λ (w : length log < length l). ⊎_elim (λ (k : length (initial h.start) ≤ length log). inl (omega arith))
-            (λ b. inr (blocked_more (length l) (omega arith) b)) h.long)
+        (λ b. inr (blocked_more (length l) (omega arith) b)) h.long)
         (le_or_lt (length l) (length log));
   }
 
@@ -122,8 +124,8 @@ module _ {E : Type 0} (dec : IsDecided E) (sites : List ℕ) (hs : List (Start E
       (λ (w : length l ≤ length log). inr (short_learn b log h l p apart w))
       (λ (w : length log < length l). ⊎_elim
       (λ (v : (length (logs b) ≤ length log) × Same (length (logs b)) log (logs b)). ⊎_elim (λ s. inl (let x = v.0 in omega arith, s))
-          (λ x. inr (blocked_more (length l) (let y = v.0 in omega arith) x))
-          (against_chosen l p b (length (logs b)) (record { start = h.start; here = h.here; is = h.is }) (let x = v.0 in omega arith) (omega arith)))
+      (λ x. inr (blocked_more (length l) (let y = v.0 in omega arith) x))
+      (against_chosen l p b (length (logs b)) (record { start = h.start; here = h.here; is = h.is }) (let x = v.0 in omega arith) (omega arith)))
       (λ x. inr (blocked_more (length l) (omega arith) x))
       k)
       (le_or_lt (length l) (length log))
@@ -138,24 +140,24 @@ module _ {E : Type 0} (dec : IsDecided E) (sites : List ℕ) (hs : List (Start E
       is_own v (same_trans (merged-same p l n (same_trans s (same_sym (same_less (length p) (omega arith) t)))) t)
   merged_ok b p l n st (is_own w s) (is_learned e j c v t) lt = ⊎_elim
       (λ (u : Same (length p) e.log (logs b)). is_learned e j c v
-          (same_trans (merged-same p l n (same_trans s (same_trans (same_sym u) (same_sym (same_less (length p) (omega arith) t))))) t))
+      (same_trans (merged-same p l n (same_trans s (same_trans (same_sym u) (same_sym (same_less (length p) (omega arith) t))))) t))
       (λ x. is_blocked (blocked_more n (omega arith) x))
       (against e j b (length p) st (omega arith) w)
   merged_ok b p l n st (is_learned d i a w s) (is_own v t) lt = ⊎_elim
       (λ (u : Same (length p) d.log (logs b)). is_own v (same_trans
-          (merged-same p l n (same_trans s (same_trans u (same_sym (same_less (length p) (omega arith) t))))) t))
+      (merged-same p l n (same_trans s (same_trans u (same_sym (same_less (length p) (omega arith) t))))) t))
       (λ x. is_blocked (blocked_more n (omega arith) x))
       (against d i b (length p) st w (omega arith))
   merged_ok b p l n st (is_learned d i a w s) (is_learned e j c v t) lt =
       is_learned e j c v (same_trans (merged-same p l n (same_trans s
-          (same_trans (compare d e i j (length p) w (omega arith)) (same_sym (same_less (length p) (omega arith) t))))) t)
+      (same_trans (compare d e i j (length p) w (omega arith)) (same_sym (same_less (length p) (omega arith) t))))) t)
 
   pub merged_log : (b : ℕ) (p l : List E) → ((n : ℕ) → n ≤ length p → LogOk hs logs cs b p n) → LogFacts hs logs cs b l → LogFacts hs logs cs b (merged p l)
   merged_log b p l front h = record {
     at_each = λ n le. ⊎_elim
         (λ (a : n ≤ length p). log_ok_same hs logs cs b (merged p l) p n (same_less n a (merged-front p l)) (front n a))
         (λ (a : length p < n). merged_ok b p l n (record { start = h.start; here = h.here; is = h.is }) (front (length p) (omega arith))
-            (h.at_each n (omega (arith, length-merged p l))) a)
+        (h.at_each n (omega (arith, length-merged p l))) a)
         (le_or_lt n (length p));
     start = h.start;
     here = h.here;

@@ -85,12 +85,12 @@ module _ {E : Type 0} (dec : IsDecided E) (f : ℕ) (p : Past E) (hist : History
       let none : l ++ [] ≡ l = append-nil l in
       learnt_log l [] ok (omega (arith, length-append c.chosen es))
       (subst (LogIs p c.accepted) (sym none) (learn_log dec (sites f) p.starts p.logs p.choices p.told hist.starts hist.choices hist.started
-          c.accepted (whole c) g.log l ok apart))
+      c.accepted (whole c) g.log l ok apart))
       (λ q k. subst (IsLeading p c.ballot) (sym none) (learn_leader dec (sites f) p.starts p.logs p.choices p.told hist.starts hist.choices
-          hist.started c.ballot (whole c) (subst (λ a. LogIs p a (whole c)) q g.log) l ok apart k))
+      hist.started c.ballot (whole c) (subst (λ a. LogIs p a (whole c)) q g.log) l ok apart k))
       (λ b n k. subst (λ y. AckIs p c.accepted y b n) (sym none)
-          (learn_ack dec (sites f) p.starts p.logs p.choices p.told hist.starts hist.choices hist.started c.accepted (whole c) g.log l ok apart b n
-          k))
+      (learn_ack dec (sites f) p.starts p.logs p.choices p.told hist.starts hist.choices hist.started c.accepted (whole c) g.log l ok apart b n
+      k))
 
   -- the later ones of a page behind what is chosen here
   pub page_chosen : (first : ℕ) (es : List E) → LearnOk p first es → first - 1 ≤ length c.chosen → length c.chosen - (first - 1) < length es
@@ -140,7 +140,7 @@ module _ {E : Type 0} (dec : IsDecided E) (f : ℕ) (p : Past E) (hist : History
             subst (LogIs p c.ballot) is (merged_log dec (sites f) p.starts p.logs p.choices p.told hist.starts hist.choices hist.started c.ballot
             c.chosen h.log
             (λ n k. chosen_log dec (sites f) p.starts p.logs p.choices p.told hist.starts hist.choices hist.started c.chosen g.chosen c.ballot
-                (started_at c.ballot h.log h.facts) n k) h.facts);
+            (started_at c.ballot h.log h.facts) n k) h.facts);
         chosen = g.chosen;
         role = subst (RoleOk f p s (record c { tail = drop (length c.chosen - base) tail; accepted = c.ballot })) (sym follows) tt;
         owned = λ x i e. let y = g.owned x i e in omega arith;
@@ -151,7 +151,7 @@ module _ {E : Type 0} (dec : IsDecided E) (f : ℕ) (p : Past E) (hist : History
       same_tail =
           let e : base + (length c.chosen - base) ≡ length c.chosen = omega arith in
           ap (λ l. c.chosen ++ l) (ap (λ k. drop k h.log) (sym e) ∙ sym (drop-drop (length c.chosen - base) base h.log) ∙ ap
-              (drop (length c.chosen - base)) h.is)
+          (drop (length c.chosen - base)) h.is)
 
   -- ACKNOWLEDGE: the length of the whole log is told
   unfoldable pub told_past : ℕ → Past E
@@ -185,8 +185,13 @@ module _ {E : Type 0} (dec : IsDecided E) (f : ℕ) (p : Past E) (hist : History
   unfolding told_past
   told_role n Follows h = tt
   told_role n (Collects vows) h =
-      record { owns = h.owns; new = h.new; vows = λ v i. vow_later f p (told_past n) s (told_owes n) c.ballot v (h.vows v i); apart = h.apart;
-      own = h.own }
+      record {
+        owns = h.owns;
+        new = h.new;
+        vows = λ v i. vow_later f p (told_past n) s (told_owes n) c.ballot v (h.vows v i);
+        apart = h.apart;
+        own = h.own;
+      }
   told_role n (Leads acks) h =
       record { owns = h.owns; same = h.same; leading = h.leading; acks = acks_later f p (told_past n) s (told_owes n) s c.ballot acks h.acks }
 
@@ -219,8 +224,12 @@ module _ {E : Type 0} (dec : IsDecided E) (f : ℕ) (p : Past E) (hist : History
 
   longer_log : (l : List E) → length (whole c) ≤ length l → ((n : ℕ) → n ≤ length l → LogOk p.starts p.logs p.choices c.accepted l n) → LogIs p c.accepted l
   longer_log l le all =
-      record { at_each = all; start = g.log.start; here = g.log.here; is = g.log.is;
-      long = ⊎_elim (λ (a : length (initial g.log.start) ≤ length (whole c)). inl (omega arith)) (λ x. inr (blocked_more (length l) le x)) g.log.long
+      record {
+        at_each = all;
+        start = g.log.start;
+        here = g.log.here;
+        is = g.log.is;
+        long = ⊎_elim (λ (a : length (initial g.log.start) ≤ length (whole c)). inl (omega arith)) (λ x. inr (blocked_more (length l) le x)) g.log.long;
       }
 
   one_more : (e : E) → (c.chosen ++ (c.tail ++ e ∷ [])) ≡ whole c ++ e ∷ []
@@ -265,12 +274,12 @@ module _ {E : Type 0} (dec : IsDecided E) (f : ℕ) (p : Past E) (hist : History
             let q : k ≡ length (whole c) = omega arith in
             let z : k - length (whole c) ≡ 0 = omega arith in
             get_append (whole c) (e ∷ []) k a ∙ ap (slice_get (e ∷ [])) z ∙ sym h.entry ∙ ap (slice_get h.log) (at_place ∙ sym q) ∙ sym
-                (merged-back (whole c) h.log k a))
+            (merged-back (whole c) h.log k a))
             (cases_lt k (length (whole c)));
       }
 
       each : (n : ℕ) → n ≤ length (whole c ++ e ∷ []) → LogOk p.starts p.logs p.choices c.accepted (whole c ++ e ∷ []) n
       each n k = subst (λ a. LogOk p.starts p.logs p.choices a (whole c ++ e ∷ []) n) (sym same)
           (log_ok_same p.starts p.logs p.choices c.ballot (whole c ++ e ∷ []) (merged (whole c) h.log) n
-              (same_less n (omega (arith, length-append (whole c) (e ∷ []))) like)
+          (same_less n (omega (arith, length-append (whole c) (e ∷ []))) like)
           (both.at_each n (let x = inside in omega (arith, length-append (whole c) (e ∷ []), length-merged (whole c) h.log))))

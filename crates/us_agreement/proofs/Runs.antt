@@ -57,10 +57,16 @@ module _ (E : Type 0) (f : ℕ) where
   first_history : HistoryOk f first_past
   unfolding first_past first_start no_choice
   first_history = record {
-    starts =
-        (record { majority = all_many f; prefix_is = inl refl; acks = λ z b n m q lt i le. absurd i;
-        within = omega (arith, length-merged {E = E} [] []); extends = record { at = λ k l. absurd (omega (arith, length-merged {E = E} [] [])) } },
-        tt);
+    starts = (
+      record {
+        majority = all_many f;
+        prefix_is = inl refl;
+        acks = λ z b n m q lt i le. absurd i;
+        within = omega (arith, length-merged {E = E} [] []);
+        extends = record { at = λ k l. absurd (omega (arith, length-merged {E = E} [] [])) };
+      },
+      tt,
+    );
     choices =
         λ c i. ⊎_elim (λ (e : no_choice ≡ c). subst (ChoiceOk (sites f) (λ b. []) []) e
         (record { within = omega arith; same = same_refl 0 []; majority = all_many f; acks = λ x q l. absurd (omega arith) })) (λ n. absurd n) i;
@@ -90,11 +96,21 @@ module _ (E : Type 0) (f : ℕ) where
     reached = omega arith;
     acc = omega arith;
     log =
-        record { at_each = λ n le. is_own le (record { at = λ k l. absurd (omega arith) }); start = first_start; here = inl refl; is = refl;
-        long = inl (omega (arith, length-merged {E = E} [] [])) };
+        record {
+          at_each = λ n le. is_own le (record { at = λ k l. absurd (omega arith) });
+          start = first_start;
+          here = inl refl;
+          is = refl;
+          long = inl (omega (arith, length-merged {E = E} [] []));
+        };
     chosen =
-        record { choice = no_choice; here = inl refl; started = record { start = first_start; here = inl refl; is = refl }; long = omega arith;
-        same = same_refl 0 [] };
+        record {
+          choice = no_choice;
+          here = inl refl;
+          started = record { start = first_start; here = inl refl; is = refl };
+          long = omega arith;
+          same = same_refl 0 [];
+        };
     role = first_role s;
     owned = λ h i e. ⊎_elim (λ (q : first_start ≡ h). let x = ap (λ (y : Start E). y.ballot) q in omega arith) (λ n. absurd n) i;
     acks = λ b n i. absurd i;
@@ -141,7 +157,7 @@ module _ {E : Type 0} (eq : E → E → Bool) (decides : (x y : E) → Decides (
             let ok = h.facts.sent x there in
             cond_both (acts f w x.to) (stepped w x.to (take_message eq (w.at x.to) x.from x.message)) w (WorldOk f)
             (λ t. take_does dec f x.to (acting w x.to t) (x ∷ []) eq decides (w.at x.to) x.from x.message (λ p given. given x (inl refl)) ok.apart
-                w.at w.sent refl h (λ y i. ⊎_elim (λ q. subst (λ z. In z w.sent) q there) (λ n. absurd n) i))
+            w.at w.sent refl h (λ y i. ⊎_elim (λ q. subst (λ z. In z w.sent) q there) (λ n. absurd n) i))
             (λ t. h)
 
     run_ok : (hs : List (Happening E)) (w : World E) → WorldOk f w → WorldOk f (run eq f hs w)

@@ -60,13 +60,14 @@ better {E} u v = on (is_better u v) refl
     longer e = ⊎_elim
         (λ (a : nat_lt (reach v) (reach u) ≡ true). let x : reach v < reach u = ltb-true (reach v) (reach u) a in omega arith)
         (λ (a : ((reach v == reach u) && nat_lt u.site v.site) ≡ true). let x : reach v ≡ reach u = eqb-true (reach v) (reach u)
-            (and_parts (reach v == reach u) (nat_lt u.site v.site) a).0 in omega arith)
+        (and_parts (reach v == reach u) (nat_lt u.site v.site) a).0 in omega arith)
         (or_cases (nat_lt (reach v) (reach u)) ((reach v == reach u) && nat_lt u.site v.site) e)
 
     on : (t : Bool) → is_better u v ≡ t → Beats (if t then u else v) v × Beats (if t then u else v) u
-    on true e =
-        (⊎_elim (λ a. inl (ltb-true _ _ a)) (λ a. let f = and_parts _ _ a in inr (eqb-true v.accepted u.accepted f.0, longer f.1)) (or_cases _ _ e),
-        inr (refl, omega arith))
+    on true e = (
+      ⊎_elim (λ a. inl (ltb-true _ _ a)) (λ a. let f = and_parts _ _ a in inr (eqb-true v.accepted u.accepted f.0, longer f.1)) (or_cases _ _ e),
+      inr (refl, omega arith),
+    )
     on false e = (inr (refl, omega arith), worse (not_less v.accepted u.accepted _ e))
       where
         worse : (u.accepted ≤ v.accepted) × (((v.accepted == u.accepted) &&
@@ -74,7 +75,7 @@ better {E} u v = on (is_better u v) refl
         worse w = ⊎_elim
             (λ (l : u.accepted < v.accepted). inl l)
             (λ (l : v.accepted ≤ u.accepted). let q : v.accepted ≡ u.accepted = (let x = w.0 in omega arith) in inr
-                (sym q, (not_less (reach v) (reach u) _ (not_both v.accepted u.accepted _ w.1 q)).0))
+            (sym q, (not_less (reach v) (reach u) _ (not_both v.accepted u.accepted _ w.1 q)).0))
             (cases_lt u.accepted v.accepted)
 
 best_both : {E : Type 0} (v : Vow E) (vs : List (Vow E)) → Beats (best v vs) v × ((u : Vow E) → In u vs → Beats (best v vs) u)
@@ -116,7 +117,7 @@ module _ {E : Type 0} (dec : IsDecided E) (f : ℕ) (p : Past E) (hist : History
       let b = (best v vs).base in
       let e : b + (length c.chosen - b) ≡ length c.chosen = omega arith in
       ap (λ l. c.chosen ++ l) (ap (λ k. drop k the_best.log) (sym e) ∙ sym (drop-drop (length c.chosen - b) b the_best.log) ∙ ap
-          (drop (length c.chosen - b)) the_best.is)
+      (drop (length c.chosen - b)) the_best.is)
 
   fresh : IsStarted p.starts c.ballot → ⊥
   fresh st = let x = g.owned st.start st.here (ap (owner f) st.is ∙ h.owns) in let y = st.is in let z = h.new in omega arith
@@ -150,8 +151,15 @@ module _ {E : Type 0} (dec : IsDecided E) (f : ℕ) (p : Past E) (hist : History
   middle_owes : Owes f p middle_past s
   unfolding middle_past
   middle_owes =
-      record { grows = grows_logs; told = λ a i. i; up = λ z. omega arith; new_acks = λ b z k i. inl i; new_starts = λ h i. inl i;
-      new_logs = own_logs; same_up = λ z a. refl }
+      record {
+        grows = grows_logs;
+        told = λ a i. i;
+        up = λ z. omega arith;
+        new_acks = λ b z k i. inl i;
+        new_starts = λ h i. inl i;
+        new_logs = own_logs;
+        same_up = λ z a. refl;
+      }
 
   begun_owes : Owes f p begun_past s
   unfolding begun_past begins
@@ -181,11 +189,13 @@ module _ {E : Type 0} (dec : IsDecided E) (f : ℕ) (p : Past E) (hist : History
         let mine : Claim E = record { accepted = (best v vs).accepted; log = the_best.log } in
         let theirs : Claim E = record { accepted = (r.0).accepted; log = x.log } in
         let beats =
-            ⊎_elim (λ (a : (r.0).accepted < (best v vs).accepted). inl a)
-            (λ (a : ((r.0).accepted ≡ (best v vs).accepted) × (reach r.0 ≤ reach (best v vs))). inr
-            (a.0, let y = a.1 in let u = x.fits in let w = the_best.fits in omega arith)) (best_beats v vs r.0 r.1) in
-        (k.1, best_later the_best.log b m grows_logs (best_ok dec (sites f) p.starts p.logs p.choices p.told hist.starts hist.choices hist.started
-            mine theirs the_best.facts beats b n m k le));
+        ⊎_elim (λ (a : (r.0).accepted < (best v vs).accepted). inl a)
+        (λ (a : ((r.0).accepted ≡ (best v vs).accepted) × (reach r.0 ≤ reach (best v vs))). inr
+        (a.0, let y = a.1 in let u = x.fits in let w = the_best.fits in omega arith)) (best_beats v vs r.0 r.1) in (
+          k.1,
+          best_later the_best.log b m grows_logs (best_ok dec (sites f) p.starts p.logs p.choices p.told hist.starts hist.choices hist.started
+              mine theirs the_best.facts beats b n m k le),
+        );
     within = (let x = ap length at in omega arith);
     extends = (let P : List E → Type 0 = λ y. Same (length first_log) first_log y in subst P (sym at) (same_refl _ first_log));
   }

@@ -38,7 +38,7 @@ pub record Step {E : Type 0} (f : ℕ) (p : Past E) (s : ℕ) (c' : BallotLog E)
 abbrev pub Keeps : {E : Type 0} → ℕ → ℕ → List (Sent E) → BallotLog E → BallotLog E → List (ℕ × BallotMessage E) → Type 0
 Keeps {E} f s xs c c' ms =
     (at : ℕ → BallotLog E) (sent : List (Sent E)) → at s ≡ c → Holds f at sent → ((x : Sent E) → In x xs → In x sent)
-        → Holds f (put at s c') (sent ++ sent_by s ms)
+    → Holds f (put at s c') (sent ++ sent_by s ms)
 
 module _ {E : Type 0} (f s : ℕ) (xs : List (Sent E)) where
   pub by_step : (c c' : BallotLog E) (ms : List (ℕ × BallotMessage E))
@@ -58,7 +58,7 @@ module _ {E : Type 0} (f s : ℕ) (xs : List (Sent E)) where
       let h1 = first at sent e h given in
       let h2 = second (put at s c1) (sent ++ sent_by s ms1) (put_same at s c1) h1 (λ x i. in_front x sent (sent_by s ms1) (given x i)) in
       let joined : (sent ++ sent_by s ms1) ++ sent_by s ms2 ≡ sent ++ sent_by s (ms1 ++ ms2) =
-          append_assoc sent (sent_by s ms1) (sent_by s ms2) ∙ ap (λ l. sent ++ l) (sym (sent_both s ms1 ms2)) in
+      append_assoc sent (sent_by s ms1) (sent_by s ms2) ∙ ap (λ l. sent ++ l) (sym (sent_both s ms1 ms2)) in
       let P : List (Sent E) → Type 0 = λ l. Holds f (put at s c2) l in
       let Q : (ℕ → BallotLog E) → Type 0 = λ g. Holds f g ((sent ++ sent_by s ms1) ++ sent_by s ms2) in
       subst P joined (subst Q (put_put at s c1 c2) h2)
@@ -164,7 +164,16 @@ module _ {E : Type 0} (f : ℕ) (p : Past E) (hist : HistoryOk f p) (s : ℕ) (h
     owes = owes_nothing f p s;
     history = hist;
     site =
-        record { f_is = g.f_is; site_is = g.site_is; reached = g.reached; acc = g.acc; log = g.log; chosen = g.chosen; role = role; owned = g.owned;
-        acks = g.acks };
+        record {
+          f_is = g.f_is;
+          site_is = g.site_is;
+          reached = g.reached;
+          acc = g.acc;
+          log = g.log;
+          chosen = g.chosen;
+          role = role;
+          owned = g.owned;
+          acks = g.acks;
+        };
     sends = λ m i. absurd i;
   }

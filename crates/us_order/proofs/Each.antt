@@ -42,18 +42,29 @@ pub record EachKept (spaces : Spaces) (b : Ledger) (p : Partition) (l : Ledger) 
 all_frame : (spaces : Spaces) (log : List LogTx) (n : ℕ) (l l' : Ledger) (k : ℕ) (ss : List Session) → SharedFacts l' → Grows n l l' → n < k
     → AllSessions spaces log l k ss → AllSessions spaces log l' k ss
 all_frame spaces log n l l' k [] all g less h = tt
-all_frame spaces log n l l' k (s ∷ ss) all g less h =
-    (h.0, session_frame spaces log n s.number l l' s.past s.running s.waits s.asks s.asked all g (λ e. let f = h.0 in omega arith) h.1, all_frame
-    spaces log n l l' (k + 1) ss all g (omega arith) h.2)
+all_frame spaces log n l l' k (s ∷ ss) all g less h = (
+  h.0,
+  session_frame spaces log n s.number l l' s.past s.running s.waits s.asks s.asked all g (λ e. let f = h.0 in omega arith) h.1,
+  all_frame
+      spaces log n l l' (k + 1) ss all g (omega arith) h.2,
+)
 
 pub each_keeps : (spaces : Spaces) (b : Ledger) (p : Partition) (f : Desk → Session → Acted) (Q : List Message → Type 0)
     → ((ms ms' : List Message) → GoesOn ms ms' → Q ms → Q ms')
     → ((l : Ledger) (d : Desk) (s : Session) → Q l.messages → Stands b p l d → Facts spaces p l s → Kept spaces b p l s.number (f d s))
     → (l : Ledger) (d : Desk) (k : ℕ) (ss : List Session) → Q l.messages → Stands b p l d → PartitionFacts spaces p l → SharedFacts l
-        → AllSessions spaces p.log l k ss → EachKept spaces b p l k (length ss) (each_session f d ss)
+    → AllSessions spaces p.log l k ss → EachKept spaces b p l k (length ss) (each_session f d ss)
 each_keeps spaces b p f Q more keeps l d k [] q st part all h =
-    record { ledger = l; stands = st; part = part; all = all; sessions = tt; same_length = refl; frame = λ m past running w asks asked less x. x;
-    begun = λ m le x. x }
+    record {
+      ledger = l;
+      stands = st;
+      part = part;
+      all = all;
+      sessions = tt;
+      same_length = refl;
+      frame = λ m past running w asks asked less x. x;
+      begun = λ m le x. x;
+    }
 each_keeps spaces b p f Q more keeps l d k (s ∷ ss) q st part all h =
     let a = f d s in
     let ka = keeps l d s q st (record { part = part; all = all; mine = h.1 }) in
@@ -67,9 +78,11 @@ each_keeps spaces b p f Q more keeps l d k (s ∷ ss) q st part all h =
       stands = e.stands;
       part = e.part;
       all = e.all;
-      sessions =
-          (num, e.frame a.session.number a.session.past a.session.running a.session.waits a.session.asks a.session.asked (omega arith) ka.facts.mine,
-          e.sessions);
+      sessions = (
+        num,
+        e.frame a.session.number a.session.past a.session.running a.session.waits a.session.asks a.session.asked (omega arith) ka.facts.mine,
+        e.sessions,
+      );
       same_length = ap suc e.same_length;
       frame =
           λ m past running w asks asked less x. e.frame m past running w asks asked (omega arith)

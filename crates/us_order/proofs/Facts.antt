@@ -80,9 +80,11 @@ AllTrue spaces p tid snapshot before (a ∷ rest) = IsTrueAnswer spaces p tid sn
 pub AllTrue-push : (spaces : Spaces) (p : Partition) (tid : Tid) (sn : List ℕ) (before as' : List Done) (a : Done)
     → AllTrue spaces p tid sn before as' → IsTrueAnswer spaces p tid sn (before ++ as') a → AllTrue spaces p tid sn before (as' ++ a ∷ [])
 AllTrue-push spaces p tid sn before [] a h t = (subst (λ l. IsTrueAnswer spaces p tid sn l a) (append-nil before) t, tt)
-AllTrue-push spaces p tid sn before (x ∷ as') a h t =
-    (h.0, AllTrue-push spaces p tid sn (before ++ x ∷ []) as' a h.1
-    (subst (λ l. IsTrueAnswer spaces p tid sn l a) (sym (append_assoc before (x ∷ []) as')) t))
+AllTrue-push spaces p tid sn before (x ∷ as') a h t = (
+  h.0,
+  AllTrue-push spaces p tid sn (before ++ x ∷ []) as' a h.1
+      (subst (λ l. IsTrueAnswer spaces p tid sn l a) (sym (append_assoc before (x ∷ []) as')) t),
+)
 
 pub AllTrue-fits : (spaces : Spaces) (p : Partition) (tid : Tid) (sn : List ℕ) (before as' : List Done) → AllTrue spaces p tid sn before as'
     → AllFits spaces as'
@@ -207,7 +209,7 @@ once_push ms y old new m m' i j k =
     ⊎_elim
     (λ (a : In m ms). ⊎_elim (λ (b : In m' ms). old m m' a b k) (λ (e : y ≡ m'). absurd (new m a (subst (SameKey m) (sym e) k))) (in_split m' ms y j))
     (λ (d : y ≡ m). ⊎_elim (λ (b : In m' ms). absurd (new m' b (SameKey-sym y m' (subst (λ x. SameKey x m') (sym d) k)))) (λ (e : y ≡ m'). sym d ∙ e)
-        (in_split m' ms y j))
+    (in_split m' ms y j))
     (in_split m ms y i)
 
 pub record BegunForm (last : ℕ) (b : Begun) : Type 0 where

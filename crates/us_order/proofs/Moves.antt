@@ -39,12 +39,21 @@ known-later p p' v l h = at_most-from v (known me p') at
   where
     at : (i : ℕ) → entry v i ≤ entry (known me p') i
     at zero =
-        rw l.got (omega (arith, at_most-true v (known me p) h 0, entry-with_other p.got 1 (horizon p) 0 (λ e. cc), entry-with_other p.got 1
-        (horizon p') 0 (λ e. cc)))
+        rw l.got (omega (
+          arith,
+          at_most-true v (known me p) h 0,
+          entry-with_other p.got 1 (horizon p) 0 (λ e. cc),
+          entry-with_other p.got 1
+              (horizon p') 0 (λ e. cc),
+        ))
     at (suc zero) = omega (arith, l.knows, at_most-true v (known me p) h 1, entry-with_same p.got 1 (horizon p), entry-with_same p'.got 1 (horizon p'))
     at (suc (suc i)) =
-        rw l.got (omega (arith, at_most-true v (known me p) h (suc (suc i)), entry-with_other p.got 1 (horizon p) (suc (suc i)) (λ e. omega arith),
-        entry-with_other p.got 1 (horizon p') (suc (suc i)) (λ e. omega arith)))
+        rw l.got (omega (
+          arith,
+          at_most-true v (known me p) h (suc (suc i)),
+          entry-with_other p.got 1 (horizon p) (suc (suc i)) (λ e. omega arith),
+          entry-with_other p.got 1 (horizon p') (suc (suc i)) (λ e. omega arith),
+        ))
 
 -- a state that is read is the same ever after
 state-later : (spaces : Spaces) (p p' : Partition) (tid : Tid) (sn : List ℕ) (item : Item) (own : List (ℕ × Effect)) → Later p p'
@@ -66,11 +75,13 @@ pub AllTrue-later : (spaces : Spaces) (p p' : Partition) (tid : Tid) (sn : List 
 AllTrue-later spaces p p' tid sn before [] l h = tt
 AllTrue-later spaces p p' tid sn before (a ∷ as') l h =
     let same : met_by spaces p.log tid sn a.item (acts_of spaces p.log tid sn before) ≡ met_by spaces p'.log tid sn a.item
-        (acts_of spaces p'.log tid sn before) =
+    (acts_of spaces p'.log tid sn before) =
     state-later spaces p p' tid sn a.item (own_effects a.item (writes_in (acts_of spaces p.log tid sn before))) l h.0.is_known ∙ ap
-        (met_by spaces p'.log tid sn a.item) (acts-later spaces p p' tid sn 1 [] before l h.0.is_known) in
-    (record { is_known = known-later p p' sn l h.0.is_known; fits = h.0.fits; is = h.0.is ∙ ap (answered a.op) same }, AllTrue-later spaces p p' tid
-        sn (before ++ a ∷ []) as' l h.1)
+    (met_by spaces p'.log tid sn a.item) (acts-later spaces p p' tid sn 1 [] before l h.0.is_known) in (
+      record { is_known = known-later p p' sn l h.0.is_known; fits = h.0.fits; is = h.0.is ∙ ap (answered a.op) same },
+      AllTrue-later spaces p p' tid
+          sn (before ++ a ∷ []) as' l h.1,
+    )
 
 -- so the writes of a transaction are the same ever after
 pub acts_true-later : (spaces : Spaces) (p p' : Partition) (tid : Tid) (sn : List ℕ) (ds : List Done) → Later p p' → AllTrue spaces p tid sn [] ds
@@ -83,7 +94,7 @@ pub writes_of-later : (spaces : Spaces) (p p' : Partition) (l : Ledger) (c : Com
 writes_of-later spaces p p' l c later h i =
     let f = h.decided c i in
     ap writes_in (acts_true-later spaces p p' c.begun.tid c.begun.snapshot c.ops later
-        (subst (AllTrue spaces p c.begun.tid c.begun.snapshot []) (sym f.ops) (h.answers c.begun f.begun)))
+    (subst (AllTrue spaces p c.begun.tid c.begun.snapshot []) (sym f.ops) (h.answers c.begun f.begun)))
 
 -- what a partition sends
 abbrev pub FromPartition : Message → Type 0
@@ -173,8 +184,13 @@ pub session_moves : (spaces : Spaces) (p p' : Partition) (l : Ledger) (ms : List
     (w : Waiting) (asks : List Ask) (asked : ℕ) → Later p p' → PartitionFacts spaces p l → ((m : Message) → In m ms → FromPartition m)
     → SessionFacts spaces p.log l n past running w asks asked → SessionFacts spaces p'.log (with_messages l ms) n past running w asks asked
 session_moves spaces p p' l ms n past running w asks asked later part from h =
-    record { covered = h.covered; small = h.small; last = h.last; queue = h.queue;
-    runs = λ t e. running_moves spaces p p' l ms n h.last w t later part from (h.runs t e) }
+    record {
+      covered = h.covered;
+      small = h.small;
+      last = h.last;
+      queue = h.queue;
+      runs = λ t e. running_moves spaces p p' l ms n h.last w t later part from (h.runs t e);
+    }
 
 -- GET
 prepared_more : (done : List Tid) (xs ms : List Message) (q : PreparedTx) → PreparedFacts done xs q → PreparedFacts done (xs ++ ms) q
@@ -293,8 +309,10 @@ once_append ms ns old new m m' i j k =
 pub answers_all : (spaces : Spaces) (p : Partition) (l : Ledger) → SharedFacts l
     → SharedFacts (with_messages l (messages_of (versions me spaces (known me p) p.log p.parked)))
 answers_all spaces p l h =
-    record { told = h.told; once = once_append l.messages _ h.once
-    (λ m m' i k. no_version_key m m' (versions_from spaces (known me p) p.log p.parked m' i) (versions_are spaces (known me p) p.log p.parked m' i) k)
+    record {
+      told = h.told;
+      once = once_append l.messages _ h.once
+          (λ m m' i k. no_version_key m m' (versions_from spaces (known me p) p.log p.parked m' i) (versions_are spaces (known me p) p.log p.parked m' i) k);
     }
 
 -- PREPARE
@@ -328,10 +346,18 @@ prepare_moves spaces p l tid sn ws small fresh h asked =
       parked = h.parked;
       prepared =
           in_push (PreparedFacts p'.done (l.messages ++ m ∷ [])) p.prepared q
-          (λ r i. let f = h.prepared r i in record { done = in_front _ p.done (tid ∷ []) f.done; asked = in_front _ l.messages (m ∷ []) f.asked;
-          told = in_front _ l.messages (m ∷ []) f.told; above = f.above })
-          (record { done = in_last p.done tid; asked = in_front _ l.messages (m ∷ []) asked; told = in_last l.messages m;
-          above = omega (arith, next_timestamp-above) });
+          (λ r i. let f = h.prepared r i in record {
+            done = in_front _ p.done (tid ∷ []) f.done;
+            asked = in_front _ l.messages (m ∷ []) f.asked;
+            told = in_front _ l.messages (m ∷ []) f.told;
+            above = f.above;
+          })
+          (record {
+            done = in_last p.done tid;
+            asked = in_front _ l.messages (m ∷ []) asked;
+            told = in_last l.messages m;
+            above = omega (arith, next_timestamp-above);
+          });
       log = h.log;
       still = λ t n f. inl (record { entry_of = f.entry_of; here = in_front _ p.prepared (q ∷ []) f.here; tid_is = f.tid_is; ts_is = f.ts_is });
       kept =
@@ -379,8 +405,13 @@ commit_moves spaces p l tid v i q h all asked got here of le =
       parked = h.parked;
       prepared = λ r j. prepared_more p.done l.messages [] r (h.prepared r (in_removed p.prepared i r j));
       log = in_push (IsDecision spaces (committed me p v i q).log l.history.committed) p.log e
-          (λ x j. let g = h.log x j in record { decision = g.decision; here = g.here; tid_is = g.tid_is; vector_is = g.vector_is;
-              writes_is = sym (writes_of-later spaces p (committed me p v i q) l g.decision later h g.here) ∙ g.writes_is })
+          (λ x j. let g = h.log x j in record {
+            decision = g.decision;
+            here = g.here;
+            tid_is = g.tid_is;
+            vector_is = g.vector_is;
+            writes_is = sym (writes_of-later spaces p (committed me p v i q) l g.decision later h g.here) ∙ g.writes_is;
+          })
           (record { decision = d.decision; here = d.here; tid_is = sym c_is; vector_is = d.vector_is; writes_is = sym (writes_is ∙ writes_later) });
       still = λ t n s. still_of t n s d c_is (removed_in p.prepared i s.entry_of q got s.here);
       kept =

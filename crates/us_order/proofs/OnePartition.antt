@@ -51,8 +51,10 @@ sent_out_one d s at tx one has =
     let parts = partitions_one d.shape tx.writes one has in
     let writes = writes_on_one d.shape tx.writes one in
     (λ i. record { desk = with_packets d (prepares d tx (parts i)); session = record s { waits = waits.Prepared at (parts i) [] } })
-    ∙ (λ i. record { desk = with_packets d (to_partition d 1 (message.Prepare tx.tid tx.snapshot (writes i)) ∷ []);
-        session = record s { waits = waits.Prepared at (1 ∷ []) [] } })
+    ∙ (λ i. record {
+      desk = with_packets d (to_partition d 1 (message.Prepare tx.tid tx.snapshot (writes i)) ∷ []);
+      session = record s { waits = waits.Prepared at (1 ∷ []) [] };
+    })
 
 -- PREPARED: it is told the decision
 pub decided_at_one : (d : Desk) (s : Session) (at : ℕ) (tx : Transaction) (vector : List ℕ) → d.shape.parts ≡ 1 → HasWrites tx.writes

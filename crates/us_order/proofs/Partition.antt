@@ -92,14 +92,23 @@ later_same p p' k e g = record { knows = k; log = record { rest = []; is = e ∙
 
 pub later_further : {p q r : Partition} → Later p q → Later q r → Later p r
 later_further g h =
-    record { knows = omega arith; log = goes_further g.log h.log; new = in_append _ g.log.rest h.log.rest g.new (λ e i. omega (arith, h.new e i));
-    got = h.got ∙ g.got }
+    record {
+      knows = omega arith;
+      log = goes_further g.log h.log;
+      new = in_append _ g.log.rest h.log.rest g.new (λ e i. omega (arith, h.new e i));
+      got = h.got ∙ g.got;
+    }
 
 -- GET
 pub get_keeps : (p : Partition) (g : Get) → entry g.snapshot 1 ≤ 2 ^ 62 → PartitionOk p → PartitionOk (get me p g)
 get_keeps p g small h =
-    record { once = h.once; below_clock = λ q i. omega (arith, h.below_clock q i); positive = h.positive; small = omega (arith, h.small);
-    got = h.got }
+    record {
+      once = h.once;
+      below_clock = λ q i. omega (arith, h.below_clock q i);
+      positive = h.positive;
+      small = omega (arith, h.small);
+      got = h.got;
+    }
 
 pub get_later : (p : Partition) (g : Get) → PartitionOk p → Later p (get me p g)
 get_later p g h =
@@ -139,7 +148,7 @@ prepared_later p tid snapshot writes h =
     let c = own_known-clock p.clock p.prepared h.below_clock in
     later_same _ _
     (own_known-above _ _ _ (omega (arith, next_timestamp-above))
-        (in_push (λ q. horizon p < q.ts) p.prepared _ (λ q i. own_known-below _ _ q i (h.positive q i)) (omega (arith, next_timestamp-above))))
+    (in_push (λ q. horizon p < q.ts) p.prepared _ (λ q i. own_known-below _ _ q i (h.positive q i)) (omega (arith, next_timestamp-above))))
     refl refl
 
 -- ONE TAKEN OUT
@@ -223,7 +232,7 @@ commit_by P p tid v same other = at (position (is_of tid) p.prepared) refl
     one i f (Some q) e =
         cond_both (nat_le q.ts (entry v 1)) (committed me p v i q) p P
         (λ t. other i q e (in_got p.prepared i q e) (ap (is_of tid) (sym (get_or_from_slice_get p.prepared i q q e))
-            ∙ (position-Some (is_of tid) p.prepared i q f).1) (leb-true q.ts (entry v 1) t))
+        ∙ (position-Some (is_of tid) p.prepared i q f).1) (leb-true q.ts (entry v 1) t))
         (λ _. same)
 
     at : (o : Option ℕ) → position (is_of tid) p.prepared ≡ o → P (commit_at me p v o)

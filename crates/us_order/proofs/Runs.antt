@@ -86,14 +86,28 @@ quiet_session : (spaces : Spaces) (log : List LogTx) (l : Ledger) (xs : List Tid
     (running : Option Transaction) (w : Waiting) (asks : List Ask) (asked : ℕ) → SessionFacts spaces log l n past running w asks asked
     → SessionFacts spaces log (quiet l xs ys) n past running w asks asked
 quiet_session spaces log l xs ys n past running w asks asked h =
-    record { covered = h.covered; small = h.small; last = h.last; queue = h.queue;
-    runs = λ t e. quiet_running spaces log l xs ys n h.last w t (h.runs t e) }
+    record {
+      covered = h.covered;
+      small = h.small;
+      last = h.last;
+      queue = h.queue;
+      runs = λ t e. quiet_running spaces log l xs ys n h.last w t (h.runs t e);
+    }
 
 quiet_shared : (l : Ledger) (xs : List Tid) (ys : List RefusedRequest) → SharedFacts l → SharedFacts (quiet l xs ys)
 quiet_shared l xs ys h = record {
   told =
-      record { begun_once = h.told.begun_once; begun_apart = h.told.begun_apart; begun_form = h.told.begun_form; performed = h.told.performed;
-      order = h.told.order; apart = h.told.apart; decided_once = h.told.decided_once; numbers = h.told.numbers; stands = h.told.stands };
+      record {
+        begun_once = h.told.begun_once;
+        begun_apart = h.told.begun_apart;
+        begun_form = h.told.begun_form;
+        performed = h.told.performed;
+        order = h.told.order;
+        apart = h.told.apart;
+        decided_once = h.told.decided_once;
+        numbers = h.told.numbers;
+        stands = h.told.stands;
+      };
   once = h.once;
 }
 
@@ -121,31 +135,45 @@ refused_keeps spaces b p l d s at number st h =
     let n = note.Refused (session_name d s) at number in
     let d' = with_client d (reply_out d s (reply.Refused at number) (number == 1)) in
     quiet_keeps spaces b p l l.history.left (with_told l n).history.refused (with_note d' n) s s (stands_note b p l d' n (stands_client b p l d _ st))
-        h h.mine refl
+    h h.mine refl
 
 -- OTHER REQUESTS WAIT
 abbrev queued : (spaces : Spaces) (p : Partition) (l : Ledger) (s : Session) (asks : List Ask) (asked : ℕ) → (h : Facts spaces p l s)
     → Ascends h.mine.last asks asked → Facts spaces p l (record s { asks = asks; asked = asked })
 queued spaces p l s asks asked h q =
-    record { part = h.part; all = h.all; mine = record { covered = h.mine.covered; small = h.mine.small; last = h.mine.last; queue = q;
-    runs = h.mine.runs } }
+    record {
+      part = h.part;
+      all = h.all;
+      mine = record {
+        covered = h.mine.covered;
+        small = h.mine.small;
+        last = h.mine.last;
+        queue = q;
+        runs = h.mine.runs;
+      };
+    }
 
 -- CLOSE: the transaction that ran, and the requests that waited, are no more
 dropped : (spaces : Spaces) (p : Partition) (l : Ledger) (s : Session) → Facts spaces p l s
     → SessionFacts spaces p.log l s.number s.past None waits.Nothing [] s.asked
 dropped spaces p l s h =
-    record { covered = h.mine.covered; small = h.mine.small; last = h.mine.last; queue = ascends-bounds h.mine.last s.asks s.asked h.mine.queue;
-    runs = λ t e. absurd (cc) }
+    record {
+      covered = h.mine.covered;
+      small = h.mine.small;
+      last = h.mine.last;
+      queue = ascends-bounds h.mine.last s.asks s.asked h.mine.queue;
+      runs = λ t e. absurd (cc);
+    }
 
 left_keeps : (spaces : Spaces) (b : Ledger) (p : Partition) (l : Ledger) (d : Desk) (s : Session) (o : Option Transaction) → s.running ≡ o
     → Stands b p l d → Facts spaces p l s → Kept spaces b p l s.number (left d s o)
 left_keeps spaces b p l d s None e st h =
     let none : SessionFacts spaces p.log l s.number s.past s.running waits.Nothing [] s.asked =
-        subst (λ o. SessionFacts spaces p.log l s.number s.past o waits.Nothing [] s.asked) (sym e) (dropped spaces p l s h) in
+    subst (λ o. SessionFacts spaces p.log l s.number s.past o waits.Nothing [] s.asked) (sym e) (dropped spaces p l s h) in
     kept_same spaces b p l s (record (closed s) { waits = waits.Nothing }) d st h none refl
 left_keeps spaces b p l d s (Some tx) e st h =
     quiet_keeps spaces b p l (with_told l (note.Left tx.tid)).history.left l.history.refused (with_note d (note.Left tx.tid)) s
-        (record (closed s) { running = None; waits = waits.Nothing })
+    (record (closed s) { running = None; waits = waits.Nothing })
     (stands_note b p l d (note.Left tx.tid) st) h (dropped spaces p l s h) refl
 
 closes_in_keeps : (spaces : Spaces) (b : Ledger) (p : Partition) (l : Ledger) (d : Desk) (s : Session) (w : Waiting) → Stands b p l d
@@ -175,7 +203,7 @@ malformed_keeps : (spaces : Spaces) (b : Ledger) (p : Partition) (l : Ledger) (d
 malformed_keeps spaces b p l d s st h =
     let a = refused d s s.asked 1 in
     next_keeps spaces b p l s.number a (λ d' s'. closes_in d' s' s'.waits) (refused_keeps spaces b p l d s s.asked 1 st h)
-        (λ l' st' h'. closes_in_keeps spaces b p l' a.desk a.session a.session.waits st' h')
+    (λ l' st' h'. closes_in_keeps spaces b p l' a.desk a.session a.session.waits st' h')
 
 -- A REQUEST
 committing_keeps : (spaces : Spaces) (b : Ledger) (p : Partition) (l : Ledger) (d : Desk) (s : Session) (at : ℕ) (tx : Transaction) (ws : List Write)
@@ -224,7 +252,7 @@ abandoned_keeps spaces b p l d s at tx st h =
     let d' = tell d s (reply.Dropped at) in
     quiet_keeps spaces b p l (with_told l (note.Left tx.tid)).history.left l.history.refused (with_note d' (note.Left tx.tid)) s (record s { running = None })
     (stands_note b p l d' (note.Left tx.tid) (stands_tell b p l d s (reply.Dropped at) st)) h
-        (record { covered = h.mine.covered; small = h.mine.small; last = h.mine.last; queue = h.mine.queue; runs = λ t e. absurd (cc) }) refl
+    (record { covered = h.mine.covered; small = h.mine.small; last = h.mine.last; queue = h.mine.queue; runs = λ t e. absurd (cc) }) refl
 
 abandon_keeps : (spaces : Spaces) (b : Ledger) (p : Partition) (l : Ledger) (d : Desk) (s : Session) (at : ℕ) (o : Option Transaction)
     → Stands b p l d → Facts spaces p l s → Kept spaces b p l s.number (abandon d s at o)
@@ -336,7 +364,7 @@ framed_in_keeps spaces b p l d s (Some r) st h =
     let has_room = nat_lt (unanswered c) 64 in
     cond_both (is_built r) (cond has_room (joins spaces d c r) (refused d c c.asked 9)) (malformed d c) (Kept spaces b p l s.number)
     (λ _. cond_both has_room (joins spaces d c r) (refused d c c.asked 9) (Kept spaces b p l s.number) (λ _. joins_keeps spaces b p l d s r st h)
-        (λ _. refused_keeps spaces b p l d c c.asked 9 st facts))
+    (λ _. refused_keeps spaces b p l d c c.asked 9 st facts))
     (λ _. malformed_keeps spaces b p l d c st facts)
 
 framed_keeps : (spaces : Spaces) (b : Ledger) (p : Partition) (l : Ledger) (d : Desk) (s : Session) (frame : List ℕ) → Stands b p l d
@@ -355,7 +383,7 @@ take_frames_keeps spaces b p (frame ∷ frames) bad l d s st h =
     cond_both a.session.closed a (take_frames spaces a.desk a.session frames bad) (Kept spaces b p l s.number)
     (λ _. k)
     (λ _. next_keeps spaces b p l s.number a (λ d' s'. take_frames spaces d' s' frames bad) k
-        (λ l' st' h'. take_frames_keeps spaces b p frames bad l' a.desk a.session st' h'))
+    (λ l' st' h'. take_frames_keeps spaces b p frames bad l' a.desk a.session st' h'))
 
 pub bytes_keeps : (spaces : Spaces) (b : Ledger) (p : Partition) (number : ℕ) (piece : List ℕ) (l : Ledger) (d : Desk) (s : Session) → Stands b p l d
     → Facts spaces p l s → Kept spaces b p l s.number (bytes spaces number piece d s)
@@ -389,10 +417,19 @@ turned_down_keeps : (spaces : Spaces) (b : Ledger) (p : Partition) (l : Ledger) 
 turned_down_keeps spaces b p l d s at number place item op st h waiting =
     let runs : (t : Transaction) → s.running ≡ Some t → RunningFacts spaces p.log l s.number h.mine.last waits.Nothing t =
     λ t e. idle_running spaces p.log l s.number h.mine.last at place item op t
-        (subst (λ w. RunningFacts spaces p.log l s.number h.mine.last w t) waiting (h.mine.runs t e)) in
+    (subst (λ w. RunningFacts spaces p.log l s.number h.mine.last w t) waiting (h.mine.runs t e)) in
     refused_keeps spaces b p l d (record s { waits = waits.Nothing }) at number st
-    (record { part = h.part; all = h.all; mine = record { covered = h.mine.covered; small = h.mine.small; last = h.mine.last; queue = h.mine.queue;
-        runs = runs } })
+    (record {
+      part = h.part;
+      all = h.all;
+      mine = record {
+        covered = h.mine.covered;
+        small = h.mine.small;
+        last = h.mine.last;
+        queue = h.mine.queue;
+        runs = runs;
+      };
+    })
 
 recorded_by_keeps : (spaces : Spaces) (b : Ledger) (p : Partition) (l : Ledger) (d : Desk) (s : Session) (at place : ℕ) (item : Item) (op : Op)
     (tx : Transaction) (v : Version) (f : Form) → v.form ≡ f → Stands b p l d → Facts spaces p l s → s.running ≡ Some tx
@@ -400,7 +437,7 @@ recorded_by_keeps : (spaces : Spaces) (b : Ledger) (p : Partition) (l : Ledger) 
     → Kept spaces b p l s.number (recorded_by d s at place item op tx f)
 recorded_by_keeps spaces b p l d s at place item op tx v (form.Answered answer effect) e st h running waiting tid_is place_is at_is told =
     cond_both (nat_le (writes_length (tx.writes ++ write_of item place effect)) 65536) (recorded d s at place item op tx answer effect)
-        (turned_down d s at 7) (Kept spaces b p l s.number)
+    (turned_down d s at 7) (Kept spaces b p l s.number)
     (λ _. recorded_keeps spaces b p l d s at place item op tx answer effect v st h running waiting tid_is place_is at_is e told)
     (λ _. turned_down_keeps spaces b p l d s at 7 place item op st h waiting)
 recorded_by_keeps spaces b p l d s at place item op tx v form.WritesFull e st h running waiting tid_is place_is at_is told =
@@ -417,7 +454,7 @@ version_in_keeps spaces b p v l d s (waits.Version at place item op) None e f to
 version_in_keeps spaces b p v l d s (waits.Version at place item op) (Some tx) e f told st h =
     cond_both (is_awaited v at place tx) _ _ (Kept spaces b p l s.number)
     (λ t. let x = and_parts _ _ t in let y = and_parts _ _ x.1 in recorded_by_keeps spaces b p l d s at place item op tx v v.form refl st h f e
-        (sym (tid_eq-true _ _ x.0)) (sym (eqb-true _ _ y.1)) (sym (eqb-true _ _ y.0)) told)
+    (sym (tid_eq-true _ _ x.0)) (sym (eqb-true _ _ y.1)) (sym (eqb-true _ _ y.0)) told)
     (λ _. stays_keeps spaces b p l d s st h)
 
 pub version_keeps : (spaces : Spaces) (b : Ledger) (p : Partition) (v : Version) (l : Ledger) (d : Desk) (s : Session)
@@ -438,9 +475,9 @@ told_all_keeps spaces b p l d s at part tx ts missing told e f g st h running ha
     let top : max ts 0 ≡ ts = omega arith in
     let k = decided_keeps spaces b p l d s at tx ts st h running has asked was_told in
     let one : told_all d s at tx (without 1 (1 ∷ [])) ([] ++ record { part = 1; ts = ts } ∷ []) ≡ decided d s at tx (with_entry tx.snapshot 1 ts) =
-        λ i. decided d s at tx (with_entry tx.snapshot (site_is i) (top i)) in
+    λ i. decided d s at tx (with_entry tx.snapshot (site_is i) (top i)) in
     let all : told_all d s at tx (without part missing) (told ++ record { part = part; ts = ts } ∷ []) ≡ told_all d s at tx (without 1 (1 ∷ []))
-        ([] ++ record { part = 1; ts = ts } ∷ []) = λ i. told_all d s at tx (without (g i) (e i)) (f i ++ record { part = g i; ts = ts } ∷ []) in
+    ([] ++ record { part = 1; ts = ts } ∷ []) = λ i. told_all d s at tx (without (g i) (e i)) (f i ++ record { part = g i; ts = ts } ∷ []) in
     subst (Kept spaces b p l s.number) (sym (all ∙ one)) k
 
 prepared_in_keeps : (spaces : Spaces) (b : Ledger) (p : Partition) (part : ℕ) (tid : Tid) (ts : ℕ) (l : Ledger) (d : Desk) (s : Session) (w : Waiting)
@@ -456,7 +493,7 @@ prepared_in_keeps spaces b p part tid ts l d s (waits.Prepared at missing so_far
     let tid_is = tid_eq-true tx.tid tid x.0 in
     let part_is = only_one part (sym (ap (list_any (λ n. n == part)) w.1) ∙ x.1) in
     told_all_keeps spaces b p l d s at part tx ts missing so_far w.1 w.2 part_is st h f w.0 w.3
-        (let P : Tid → Type 0 = λ t'. In (message.Prepared t' ts) l.messages in subst P (sym tid_is) told))
+    (let P : Tid → Type 0 = λ t'. In (message.Prepared t' ts) l.messages in subst P (sym tid_is) told))
     (λ _. stays_keeps spaces b p l d s st h)
 
 pub prepared_keeps : (spaces : Spaces) (b : Ledger) (p : Partition) (part : ℕ) (tid : Tid) (ts : ℕ) (l : Ledger) (d : Desk) (s : Session)

@@ -85,8 +85,11 @@ is_true-later spaces p l l' (message.Version v) g b d h =
 is_true-later spaces p l l' (message.Prepare tid snapshot writes) g b d h =
     record { by = h.by; here = in_later _ b h.here; tid_is = h.tid_is; snapshot_is = h.snapshot_is }
 is_true-later spaces p l l' (message.Prepared tid ts) g b d h =
-    record { done = h.done; until = ⊎_elim (λ a. inl a)
-    (λ (k : IsDecided l.history.committed tid). inr (record { decision = k.decision; here = in_later _ d k.here; tid_is = k.tid_is })) h.until }
+    record {
+      done = h.done;
+      until = ⊎_elim (λ a. inl a)
+          (λ (k : IsDecided l.history.committed tid). inr (record { decision = k.decision; here = in_later _ d k.here; tid_is = k.tid_is })) h.until;
+    }
 is_true-later spaces p l l' (message.Commit tid vector) g b d h =
     record { decision = h.decision; here = in_later _ d h.here; tid_is = h.tid_is; vector_is = h.vector_is; has = h.has }
 is_true-later spaces p l l' _ g b d h = h
@@ -136,11 +139,20 @@ part_grows spaces p n l l' g h new_messages ops new_decided answers =
           (in_grown m g.messages i);
       parked = λ q i. in_later _ g.messages (h.parked q i);
       prepared =
-          λ q i. let f = h.prepared q i in record { done = f.done; asked = in_later _ g.messages f.asked; told = in_later _ g.messages f.told;
-          above = f.above };
+          λ q i. let f = h.prepared q i in record {
+            done = f.done;
+            asked = in_later _ g.messages f.asked;
+            told = in_later _ g.messages f.told;
+            above = f.above;
+          };
       log =
-          λ e i. let f = h.log e i in record { decision = f.decision; here = in_later _ g.committed f.here; tid_is = f.tid_is;
-          vector_is = f.vector_is; writes_is = f.writes_is };
+          λ e i. let f = h.log e i in record {
+            decision = f.decision;
+            here = in_later _ g.committed f.here;
+            tid_is = f.tid_is;
+            vector_is = f.vector_is;
+            writes_is = f.writes_is;
+          };
       decided =
           λ c i. ⊎_elim (λ a. decided-later spaces p l l' c g.messages g.begun g.committed (ops c a) (h.decided c a)) (λ b. new_decided c b)
           (in_grown c g.committed i);
@@ -203,8 +215,11 @@ asked_for_keeps spaces b p l d s at tx item op fits st h running idle next =
             (record { by = begun_as s.number tx; here = run.begun; tid_is = refl; snapshot_is = refl; fits = fits }))
             (λ c i. (h.part.decided c i).ops) (λ c i. absurd i) h.part.answers;
         all =
-            record { told = h.all.told; once = once_push l.messages m h.all.once
-            (new_get spaces p.log l s.number h.mine.last s.waits at tx item op (own_effects item tx.writes) run next.0) };
+            record {
+              told = h.all.told;
+              once = once_push l.messages m h.all.once
+                  (new_get spaces p.log l s.number h.mine.last s.waits at tx item op (own_effects item tx.writes) run next.0);
+            };
         mine = record {
           covered = h.mine.covered;
           small = h.mine.small;
@@ -345,8 +360,8 @@ begun_keeps_at spaces b p l d s at same st h idle =
     let l' = with_begun l new in
     let small : entry snapshot 1 ≤ 2 ^ 62 = omega (arith, entry-join s.past (known me p) 1, base_small spaces p l h.part, h.mine.small) in
     let told =
-        stands_note b p l (tell d0 s (reply.Started at (next_tid d0))) (note.Begun (next_tid d0) (session_name d0 s) snapshot)
-        (stands_tell b p l d0 s (reply.Started at (next_tid d0)) st) in
+    stands_note b p l (tell d0 s (reply.Started at (next_tid d0))) (note.Begun (next_tid d0) (session_name d0 s) snapshot)
+    (stands_tell b p l d0 s (reply.Started at (next_tid d0)) st) in
     let told_history = begun_history l s.number snapshot h.all.told small (λ c i e. at_most-join_left c.vector s.past (known me p) (h.mine.covered c i e)) in
     let g : Grows s.number l l' = record {
       messages = goes_nowhere _;
@@ -365,7 +380,7 @@ begun_keeps_at spaces b p l d s at same st h idle =
       facts = record {
         part = part_grows spaces p s.number l l' g h.part (λ m i. absurd i) (λ c i. (h.part.decided c i).ops) (λ c i. absurd i)
             (in_push (λ x. AllTrue spaces p x.tid x.snapshot [] (ops_of x.tid l.history.performed)) l.history.begun new h.part.answers
-                (new_answers spaces p l h.part h.all.told new refl));
+            (new_answers spaces p l h.part h.all.told new refl));
         all = record { told = told_history; once = h.all.once };
         mine = record {
           covered = h.mine.covered;
@@ -397,8 +412,14 @@ begun_keeps spaces b p l d s at st h idle =
     let d0 : Desk = record d { me = me; base = known me p; seq = l.seq } in
     let e : d0 ≡ d = λ i. record d { me = sym st.actor i; base = sym st.base i; seq = sym st.seq i } in
     subst (λ x. Kept spaces b p l s.number (begun x s at)) e
-        (begun_keeps_at spaces b p l d s at st.seq (record { actor = refl; one = st.one; base = refl; seq = refl; messages = st.messages;
-        history = st.history }) h idle)
+    (begun_keeps_at spaces b p l d s at st.seq (record {
+      actor = refl;
+      one = st.one;
+      base = refl;
+      seq = refl;
+      messages = st.messages;
+      history = st.history;
+    }) h idle)
 
 -- A DECISION
 
@@ -526,8 +547,14 @@ stands_decided : (spaces : Spaces) (b : Ledger) (p : Partition) (l : Ledger) (d 
 stands_decided spaces b p l d n last w tx vector all run st =
     let f = stands_note b p l d (note.Decided tx.tid vector) st in
     let one = begun_of-found l.history.begun (begun_as n tx) run.begun (λ x i e. all.told.begun_once x (begun_as n tx) i run.begun e) in
-    record { actor = f.actor; one = f.one; base = f.base; seq = f.seq; messages = f.messages;
-        history = sym (ap (decided_one l.history false vector) one) ∙ f.history }
+    record {
+      actor = f.actor;
+      one = f.one;
+      base = f.base;
+      seq = f.seq;
+      messages = f.messages;
+      history = sym (ap (decided_one l.history false vector) one) ∙ f.history;
+    }
 
 abbrev grows_decided : (l : Ledger) (n : ℕ) (tx : Transaction) (vector : List ℕ)
     → Grows n l (record l { history = with_decided l.history (decision l n tx vector) })
@@ -581,8 +608,8 @@ ends_keeps spaces b p l d s at tx st h running none =
     let ds = ops_of tx.tid l.history.performed in
     let fits = AllTrue-fits spaces p tx.tid tx.snapshot [] ds (h.part.answers (begun_as s.number tx) run.begun) in
     let no : has_own_vector (decision l s.number tx tx.snapshot) ≡ true → ⊥ =
-        λ w. subst HasWrites (sym (writes_told spaces p.log l s.number h.mine.last s.waits tx run) ∙ none)
-        (update-writes spaces p.log tx.tid tx.snapshot ds fits w) in
+    λ w. subst HasWrites (sym (writes_told spaces p.log l s.number h.mine.last s.waits tx run) ∙ none)
+    (update-writes spaces p.log tx.tid tx.snapshot ds fits w) in
     ended_keeps spaces b p l d s at tx tx.snapshot st h running (record {
       begun = run.begun;
       ops = refl;
@@ -637,8 +664,8 @@ decided_at_one_keeps spaces b p l d s at tx ts st h running has asked told =
     let d' = with_packets d (to_partition d 1 m ∷ []) in
     let told_is = writes_told spaces p.log l s.number h.mine.last s.waits tx run in
     let still : StillPrepared p.prepared tx.tid ts =
-        ⊎_elim (λ a. a) (λ (k : IsDecided l.history.committed tx.tid). absurd
-        (undecided spaces p l s.number h.mine.last s.waits tx h.part h.all run k.decision k.here k.tid_is)) (h.part.messages _ told).until in
+    ⊎_elim (λ a. a) (λ (k : IsDecided l.history.committed tx.tid). absurd
+    (undecided spaces p l s.number h.mine.last s.waits tx h.part h.all run k.decision k.here k.tid_is)) (h.part.messages _ told).until in
     let above : entry tx.snapshot 1 < ts = above_snapshot spaces p l tx ts h.part h.all asked still in
     let below : still.entry_of.ts ≤ p.clock = h.part.ok.below_clock still.entry_of still.here in
     let ts_is = still.ts_is in
@@ -648,7 +675,7 @@ decided_at_one_keeps spaces b p l d s at tx ts st h running has asked told =
     let fits = AllTrue-fits spaces p tx.tid tx.snapshot [] ds (h.part.answers (begun_as s.number tx) run.begun) in
     let updates : has_own_vector new ≡ true = writes-update spaces p.log tx.tid tx.snapshot ds fits (subst HasWrites told_is has) in
     let asked' : In (message.Prepare tx.tid tx.snapshot (writes_of spaces p.log new)) l.messages =
-        subst (λ ws. In (message.Prepare tx.tid tx.snapshot ws) l.messages) told_is asked in
+    subst (λ ws. In (message.Prepare tx.tid tx.snapshot ws) l.messages) told_is asked in
     let g : Grows s.number l l' = record {
       messages = goes_by l.messages (m ∷ []);
       sent = in_one (FromSession l' s.number) m tt;
@@ -684,8 +711,10 @@ decided_at_one_keeps spaces b p l d s at tx ts st h running has asked told =
             (record { decision = new; here = in_last l.history.committed new; tid_is = refl; vector_is = refl; has = updates }))
             (λ c i. (h.part.decided c i).ops) (in_one (DecidedFacts spaces p l') new f) h.part.answers;
         all =
-            record { told = decided_history spaces p l s.number h.mine.last s.waits tx vector h.part h.all run;
-            once = once_push l.messages m h.all.once (λ x i k. no_key x tx.tid vector k) };
+            record {
+              told = decided_history spaces p l s.number h.mine.last s.waits tx vector h.part h.all run;
+              once = once_push l.messages m h.all.once (λ x i k. no_key x tx.tid vector k);
+            };
         mine =
             let e = ended_session spaces p.log l s.number s.past s.running s.waits s.asks s.asked new f.small h.mine
             in record { covered = e.covered; small = e.small; last = e.last; queue = e.queue; runs = λ t q. absurd (cc) };
@@ -713,7 +742,7 @@ pub decided_keeps : (spaces : Spaces) (b : Ledger) (p : Partition) (l : Ledger) 
     → In (message.Prepared tx.tid ts) l.messages → Kept spaces b p l s.number (decided d s at tx (with_entry tx.snapshot 1 ts))
 decided_keeps spaces b p l d s at tx ts st h running has asked told =
     subst (Kept spaces b p l s.number) (sym (decided_at_one d s at tx (with_entry tx.snapshot 1 ts) st.one has))
-        (decided_at_one_keeps spaces b p l d s at tx ts st h running has asked told)
+    (decided_at_one_keeps spaces b p l d s at tx ts st h running has asked told)
 
 -- VERSION: an operation is answered
 -- what is told where it isn't too long
@@ -778,8 +807,8 @@ recorded_keeps spaces b p l d s at place item op tx answer effect v st h running
       facts = record {
         part = part_grows spaces p s.number l l' g h.part (λ m i. absurd i)
             (λ c i. (h.part.decided c i).ops ∙ sym (ops_of-still c.begun.tid l.history.performed (l.history.performed ++ q ∷ []) g.performed
-                (in_one (λ (x : Performed). x.tid ≡ c.begun.tid → ⊥) q
-                (λ f. undecided spaces p l s.number h.mine.last s.waits tx h.part h.all run c i (sym f)))))
+            (in_one (λ (x : Performed). x.tid ≡ c.begun.tid → ⊥) q
+            (λ f. undecided spaces p l s.number h.mine.last s.waits tx h.part h.all run c i (sym f)))))
             (λ c i. absurd i)
             (λ x i. answers_of p l tx s.number h.mine.last s.waits done h.part h.all run new_answer x i (tid_eq x.tid tx.tid) refl);
         all = record { told = told_performed l q (record { by = begun_as s.number tx; here = run.begun; tid_is = refl }) h.all.told; once = h.all.once };
@@ -806,9 +835,9 @@ recorded_keeps spaces b p l d s at place item op tx answer effect v st h running
     writes_on : (log : List LogTx) (tx : Transaction) (item : Item) (op : Op) (answer : Answer) (place : ℕ) (effect : Option Effect) → place ≡ length tx.ops + 1
         → tx.writes ≡ writes_in (acts_of spaces log tx.tid tx.snapshot tx.ops)
         → effect ≡ effect_at spaces log tx.tid tx.snapshot (acts_of spaces log tx.tid tx.snapshot tx.ops) place
-            (record { item = item; op = op; answer = answer })
+        (record { item = item; op = op; answer = answer })
         → tx.writes ++ write_of item place effect ≡ writes_in
-            (acts_of spaces log tx.tid tx.snapshot (tx.ops ++ record { item = item; op = op; answer = answer } ∷ []))
+        (acts_of spaces log tx.tid tx.snapshot (tx.ops ++ record { item = item; op = op; answer = answer } ∷ []))
     writes_on log tx item op answer place effect e f k =
         let done : Done = record { item = item; op = op; answer = answer } in
         let acts = acts_of spaces log tx.tid tx.snapshot tx.ops in
@@ -842,10 +871,10 @@ recorded_keeps spaces b p l d s at place item op tx answer effect v st h running
         let P : Begun → Type 0 = λ y. AllTrue spaces p y.tid y.snapshot [] (ops_of y.tid (l.history.performed ++ record { tid = tx.tid; done = done } ∷ [])) in
         let old = part.answers (begun_as n tx) run.begun in
         subst P same (subst (AllTrue spaces p tx.tid tx.snapshot []) (sym (ops_of-same tx.tid l.history.performed done))
-            (AllTrue-push spaces p tx.tid tx.snapshot [] (ops_of tx.tid l.history.performed) done old new))
+        (AllTrue-push spaces p tx.tid tx.snapshot [] (ops_of tx.tid l.history.performed) done old new))
     answers_of p l tx n last w done part all run new x i false e =
         let q : Performed = record { tid = tx.tid; done = done } in
         let still =
-            ops_of-still x.tid l.history.performed (l.history.performed ++ q ∷ []) (goes_by l.history.performed (q ∷ []))
-            (in_one (λ (y : Performed). y.tid ≡ x.tid → ⊥) q (λ f. true≢false (sym (tid_eq-same x.tid) ∙ ap (tid_eq x.tid) (sym f) ∙ e))) in
+        ops_of-still x.tid l.history.performed (l.history.performed ++ q ∷ []) (goes_by l.history.performed (q ∷ []))
+        (in_one (λ (y : Performed). y.tid ≡ x.tid → ⊥) q (λ f. true≢false (sym (tid_eq-same x.tid) ∙ ap (tid_eq x.tid) (sym f) ∙ e))) in
         subst (AllTrue spaces p x.tid x.snapshot []) (sym still) (part.answers x i)

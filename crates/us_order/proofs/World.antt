@@ -64,13 +64,13 @@ still_in spaces b w h m i = subst (In m) (sym h.messages) (in_front m b.messages
 all_keeps : (spaces : Spaces) (b : Ledger) (shape : Shape) → shape.parts ≡ 1 → (f : Desk → Session → Acted) (Q : List Message → Type 0)
     → ((ms ms' : List Message) → GoesOn ms ms' → Q ms → Q ms') → (w : Went)
     → ((l : Ledger) (d : Desk) (s : Session) → Q l.messages → Stands b w.shard.partition l d → Facts spaces w.shard.partition l s → Kept spaces b
-        w.shard.partition l s.number (f d s))
+    w.shard.partition l s.number (f d s))
     → (h : Good spaces b w) → Q h.ledger.messages → Good spaces b (all_sessions f me shape w)
 all_keeps spaces b shape one f Q more w keeps h q =
     let p = w.shard.partition in
     let ss = w.shard.coordinator.sessions in
     let st : Stands b p h.ledger (desk_of me shape w) =
-        record { actor = refl; one = one; base = refl; seq = h.seq; messages = h.messages; history = h.history } in
+    record { actor = refl; one = one; base = refl; seq = h.seq; messages = h.messages; history = h.history } in
     let e = each_keeps spaces b p f Q more keeps h.ledger (desk_of me shape w) 1 ss q st h.facts.part h.facts.all h.facts.sessions in
     record {
       ledger = e.ledger;
@@ -84,9 +84,12 @@ all_keeps spaces b shape one f Q more w keeps h q =
 all_moves : (spaces : Spaces) (p p' : Partition) (l : Ledger) (ms : List Message) (k : ℕ) (ss : List Session) → Later p p' → PartitionFacts spaces p l
     → ((m : Message) → In m ms → FromPartition m) → AllSessions spaces p.log l k ss → AllSessions spaces p'.log (with_messages l ms) k ss
 all_moves spaces p p' l ms k [] later part from h = tt
-all_moves spaces p p' l ms k (s ∷ ss) later part from h =
-    (h.0, session_moves spaces p p' l ms s.number s.past s.running s.waits s.asks s.asked later part from h.1, all_moves spaces p p' l ms (k + 1) ss
-    later part from h.2)
+all_moves spaces p p' l ms k (s ∷ ss) later part from h = (
+  h.0,
+  session_moves spaces p p' l ms s.number s.past s.running s.waits s.asks s.asked later part from h.1,
+  all_moves spaces p p' l ms (k + 1) ss
+      later part from h.2,
+)
 
 moves_keeps : (spaces : Spaces) (b : Ledger) (w : Went) (p' : Partition) (ps : List Packet) → (h : Good spaces b w)
     → Moves spaces w.shard.partition p' h.ledger (messages_of ps) → SharedFacts (with_messages h.ledger (messages_of ps))
@@ -161,28 +164,33 @@ prepares_keeps spaces b from w tid sn ws h i may =
     let fresh = not-true _ f.0 in
     let small = leb-true (timestamp_for me p sn) (2 ^ 62) f.1 in
     moves_keeps spaces b w (prepared_here me p tid sn ws) (answer_to me from (message.Prepared tid (timestamp_for me p sn)) ∷ []) h
-        (prepare_moves spaces p h.ledger tid sn ws small fresh h.facts.part i)
-        (prepare_all spaces p h.ledger tid (timestamp_for me p sn) h.facts.part h.facts.all fresh)
+    (prepare_moves spaces p h.ledger tid sn ws small fresh h.facts.part i)
+    (prepare_all spaces p h.ledger tid (timestamp_for me p sn) h.facts.part h.facts.all fresh)
 
 unmoved : (spaces : Spaces) (b : Ledger) (w : Went) → Good spaces b w → Good spaces b (with_partition w w.shard.partition [])
 unmoved spaces b w h =
-    record { ledger = h.ledger; seq = h.seq; messages = h.messages ∙ ap (λ ps. b.messages ++ messages_of ps) (sym (append-nil w.out.packets));
-    history = h.history; facts = h.facts }
+    record {
+      ledger = h.ledger;
+      seq = h.seq;
+      messages = h.messages ∙ ap (λ ps. b.messages ++ messages_of ps) (sym (append-nil w.out.packets));
+      history = h.history;
+      facts = h.facts;
+    }
 
 commit_keeps : (spaces : Spaces) (b : Ledger) (w : Went) (tid : Tid) (v : List ℕ) → (h : Good spaces b w)
     → In (message.Commit tid v) h.ledger.messages → Good spaces b (with_partition w (commit me w.shard.partition tid v) [])
 commit_keeps spaces b w tid v h asked =
     commit_by (λ p'. Good spaces b (with_partition w p' [])) w.shard.partition tid v (unmoved spaces b w h)
     (λ i q got here of le. silent_keeps spaces b w (committed me w.shard.partition v i q) h
-        (commit_moves spaces w.shard.partition h.ledger tid v i q h.facts.part h.facts.all asked got here of le))
+    (commit_moves spaces w.shard.partition h.ledger tid v i q h.facts.part h.facts.all asked got here of le))
 
 take_message_keeps : (spaces : Spaces) (b : Ledger) (shape : Shape) → shape.parts ≡ 1 → (from : Actor) (w : Went) (m : Message)
     → (h : Good spaces b w) → In m h.ledger.messages → Good spaces b (take_message me shape from w m)
 take_message_keeps spaces b shape one from w (message.Get tid place at sn item op own) h i =
     silent_keeps spaces b w (get me w.shard.partition (record
-        { from = from.actor; tid = tid; place = place; at = at; snapshot = sn; item = item; op = op; own = own })) h
+    { from = from.actor; tid = tid; place = place; at = at; snapshot = sn; item = item; op = op; own = own })) h
     (get_moves spaces w.shard.partition h.ledger (record
-        { from = from.actor; tid = tid; place = place; at = at; snapshot = sn; item = item; op = op; own = own }) h.facts.part h.facts.all i)
+    { from = from.actor; tid = tid; place = place; at = at; snapshot = sn; item = item; op = op; own = own }) h.facts.part h.facts.all i)
 take_message_keeps spaces b shape one from w (message.Version v) h i =
     all_keeps spaces b shape one (version v) (λ ms. In (message.Version v) ms) (λ ms ms' g q. in_later _ g q) w
     (λ l d s q st f. version_keeps spaces b w.shard.partition v l d s q st f) h i
@@ -224,11 +232,11 @@ unfolding wake
 wake_keeps settings one b w h =
     let p = w.shard.partition in
     let a =
-        moves_keeps settings.catalog b w (after_answers p) (versions me settings.catalog (known me p) p.log p.parked) h
-        (answers_moves settings.catalog p h.ledger h.facts.part) (answers_all settings.catalog p h.ledger h.facts.all) in
+    moves_keeps settings.catalog b w (after_answers p) (versions me settings.catalog (known me p) p.log p.parked) h
+    (answers_moves settings.catalog p h.ledger h.facts.part) (answers_all settings.catalog p h.ledger h.facts.all) in
     all_keeps settings.catalog b settings.shape one.partition (run_session settings.catalog) (λ ms. Unit {0}) (λ ms ms' g q. tt)
-        (answers me settings.catalog w) (λ l d s q st f. run_session_keeps settings.catalog b (answers me settings.catalog w).shard.partition l d s st
-        f) a tt
+    (answers me settings.catalog w) (λ l d s q st f. run_session_keeps settings.catalog b (answers me settings.catalog w).shard.partition l d s st
+    f) a tt
 
 -- THE SITE
 abbrev pub site_of : Settings → Shard → Site
@@ -251,8 +259,12 @@ step_of_keeps settings one shard b e zero i h = record { shard = shard; site_is 
 step_of_keeps settings one shard b e (suc zero) i h =
     let full = is_full (site_of settings shard) in
     let w = wake me settings (take_event me settings full (record { shard = shard; out = no_outputs }) e) in
-    record { shard = w.shard; site_is = refl; good = wake_keeps settings one b _
-        (take_event_keeps settings one b full (record { shard = shard; out = no_outputs }) e i h) }
+    record {
+      shard = w.shard;
+      site_is = refl;
+      good = wake_keeps settings one b _
+          (take_event_keeps settings one b full (record { shard = shard; out = no_outputs }) e i h);
+    }
 step_of_keeps settings one shard b e (suc (suc a)) i h =
     let none : slice_get (shard ∷ []) (suc (suc a) - 1) ≡ None = slice_get_past (shard ∷ []) (suc (suc a) - 1) (omega arith) in
     rw (lt-ltb 0 (suc (suc a)) (omega arith), none) (record { shard = shard; site_is = refl; good = h })
@@ -276,8 +288,11 @@ stepped_keeps settings w b r ms hs h =
     let m : l.messages ≡ new.messages = h.good.messages ∙ ap (λ xs. xs ++ messages_of r.out.packets) ms ∙ sym (messages_of-append w.packets r.out.packets) in
     let k : l.history ≡ new.history = h.good.history ∙ ap (λ x. noted_all x r.out.notes) hs ∙ sym (noted_all-append no_history w.notes r.out.notes) in
     let e : l ≡ new = λ i. record { seq = sym h.good.seq i; messages = m i; history = k i } in
-    record { shard = h.shard; sites = ap (λ s. s ∷ []) h.site_is;
-        facts = subst (ActorFacts settings.catalog h.shard.partition h.shard.coordinator.sessions) e h.good.facts }
+    record {
+      shard = h.shard;
+      sites = ap (λ s. s ∷ []) h.site_is;
+      facts = subst (ActorFacts settings.catalog h.shard.partition h.shard.coordinator.sessions) e h.good.facts;
+    }
 
 -- an event at a site of the only one
 at_keeps : (settings : Settings) → HasOnePartition settings → (w : World) (shard : Shard) (s : ℕ) (e : Event)
@@ -287,10 +302,10 @@ at_keeps settings one w shard zero e f i = record { shard = shard; sites = refl;
 at_keeps settings one w shard (suc zero) e f i =
     let b = ledger_of shard w.packets w.notes in
     stepped_keeps settings w b (site_step (site_of settings shard) e) refl refl
-        (step_of_keeps settings one shard b e (actor_of e) i (begins_good settings shard b refl f))
+    (step_of_keeps settings one shard b e (actor_of e) i (begins_good settings shard b refl f))
 at_keeps settings one w shard (suc (suc s)) e f i =
     let none : slice_get (site_of settings shard ∷ []) (suc (suc s) - 1) ≡ None =
-        slice_get_past (site_of settings shard ∷ []) (suc (suc s) - 1) (omega arith) in
+    slice_get_past (site_of settings shard ∷ []) (suc (suc s) - 1) (omega arith) in
     rw (lt-ltb 0 (suc (suc s)) (omega arith), none) (record { shard = shard; sites = refl; facts = f })
 
 at_site_keeps : (settings : Settings) → HasOnePartition settings → (w : World) (s : ℕ) (e : Event) → (h : WorldFacts settings w)
@@ -333,8 +348,19 @@ start_facts settings one = record {
   facts = record {
     part = record {
       ok =
-          record { once = record { prepared_done = λ q i. absurd i; log_done = λ e i. absurd i; prepared_apart = tt; log_apart = tt;
-          apart = λ q e i j. absurd i }; below_clock = λ q i. absurd i; positive = λ q i. absurd i; small = omega arith; got = refl };
+          record {
+            once = record {
+              prepared_done = λ q i. absurd i;
+              log_done = λ e i. absurd i;
+              prepared_apart = tt;
+              log_apart = tt;
+              apart = λ q e i j. absurd i;
+            };
+            below_clock = λ q i. absurd i;
+            positive = λ q i. absurd i;
+            small = omega arith;
+            got = refl;
+          };
       messages = λ m i. absurd i;
       parked = λ g i. absurd i;
       prepared = λ q i. absurd i;

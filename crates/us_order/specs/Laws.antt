@@ -43,7 +43,7 @@ PastsAreDirect =
 abbrev pub ExecutionsAreDirect : Type 0
 ExecutionsAreDirect =
     (settings : Settings) → HasOnePartition settings → (hs : List Happening)
-        → execution_of (run hs (start settings)).notes ≡ execution_by direct_past (history_of (run hs (start settings)).notes)
+    → execution_of (run hs (start settings)).notes ≡ execution_by direct_past (history_of (run hs (start settings)).notes)
 
 -- after each run, in each session the transactions and their vectors ascend
 abbrev pub HistoriesAscend : Type 0

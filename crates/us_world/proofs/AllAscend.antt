@@ -55,9 +55,9 @@ ascends-holds h e =
     let p = and_parts _ _ u.1 in
     let q = and_parts _ _ p.1 in
     let pair =
-        λ (c d : Committed) (i : In c h.committed) (j : In d h.committed). both-ascend c d
-        (all-pass (λ x. ascend_by_number c x) h.committed d (all-pass (λ x. list_all (λ y. ascend_by_number x y) h.committed) h.committed c p.0 i) j)
-        in
+    λ (c d : Committed) (i : In c h.committed) (j : In d h.committed). both-ascend c d
+    (all-pass (λ x. ascend_by_number c x) h.committed d (all-pass (λ x. list_all (λ y. ascend_by_number x y) h.committed) h.committed c p.0 i) j)
+    in
     record {
       unlinked = no-items h.links (eqb-true _ _ u.0);
       sessions = record { seqs = λ c d i j same less. (pair c d i j same less).0; vectors = λ c d i j same less. (pair c d i j same less).1 };

@@ -19,7 +19,7 @@ use Rattle.us_world.specs.Found.{done_before, done_at, group_of, IsIndexed}
 -- the first place, where k stand before the list
 first_begun : (tid : Tid) (k : ℕ) (bs : List Begun)
     → MatchOption (slice_get (places_of (λ t. tid_eq t tid) k (map (λ (b : Begun). b.tid) bs)) 0) (begun_of tid bs ≡ None)
-        (λ i. (j : ℕ) × (i ≡ k + j) × (slice_get bs j ≡ begun_of tid bs))
+    (λ i. (j : ℕ) × (i ≡ k + j) × (slice_get bs j ≡ begun_of tid bs))
 first_begun tid k [] = refl
 first_begun tid k (b ∷ bs) = on (tid_eq b.tid tid) (places_of (λ t. tid_eq t tid) (k + 1) (map (λ (x : Begun). x.tid) bs)) (first_begun tid (k + 1) bs)
   where
@@ -33,7 +33,7 @@ first_begun tid k (b ∷ bs) = on (tid_eq b.tid tid) (places_of (λ t. tid_eq t 
     on : (t : Bool) (rest : List ℕ)
         → MatchOption (slice_get rest 0) (begun_of tid bs ≡ None) (λ i. (j : ℕ) × (i ≡ k + 1 + j) × (slice_get bs j ≡ begun_of tid bs))
         → MatchOption (slice_get (cond t (k ∷ rest) rest) 0) (cond t (Some b) (begun_of tid bs) ≡ None)
-            (λ i. (j : ℕ) × (i ≡ k + j) × (slice_get (b ∷ bs) j ≡ cond t (Some b) (begun_of tid bs)))
+        (λ i. (j : ℕ) × (i ≡ k + j) × (slice_get (b ∷ bs) j ≡ cond t (Some b) (begun_of tid bs)))
     on true rest e = (0, omega arith, refl)
     on false rest e = shift (slice_get rest 0) e
 
@@ -78,7 +78,7 @@ all_done tid all k (p ∷ ps) there =
 
     on : (t : Bool) → done_at all (places_of (λ t. tid_eq t tid) (k + 1) (map (λ (x : Performed). x.tid) ps)) ≡ ops_of tid ps
         → done_at all (cond t (k ∷ places_of (λ t. tid_eq t tid) (k + 1) (map (λ (x : Performed). x.tid) ps))
-            (places_of (λ t. tid_eq t tid) (k + 1) (map (λ (x : Performed). x.tid) ps))) ≡ cond t (p.done ∷ ops_of tid ps) (ops_of tid ps)
+        (places_of (λ t. tid_eq t tid) (k + 1) (map (λ (x : Performed). x.tid) ps))) ≡ cond t (p.done ∷ ops_of tid ps) (ops_of tid ps)
     on true e = (λ i. done_before (here i) (e i))
     on false e = e
 

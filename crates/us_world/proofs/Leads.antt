@@ -81,7 +81,7 @@ leads_reach (l ∷ ls) n w es are within =
 pub leads_past : (before : List Numbered) (l : Numbered) (after : List Numbered) (n : ℕ) (w : World) (es own : List Happening) (which : WorldFault)
     → AreEventsOf before w es
     → limit_of n es w ≡ None → Begins l.line (run es w) own → limit_of (n + length es) own (run es w) ≡ Some which
-        → Leads (before ++ l ∷ after) n w (Passes l.number which)
+    → Leads (before ++ l ∷ after) n w (Passes l.number which)
 leads_past [] l after n w es own which are within begins past =
     let here : Begins l.line w own = subst (λ (hs : List Happening). Begins l.line (run hs w) own) are begins in
     let zero : n + length es ≡ n = let e = ap length are in omega arith in

@@ -119,8 +119,12 @@ performed_all settings all k so =
       world = run so.events (start settings);
       stands = so.stands;
       is =
-          record { events = so.events; are = subst (λ (ls : List Numbered). AreEventsOf ls (start settings) so.events) same so.are;
-          within = so.within; run = refl };
+          record {
+            events = so.events;
+            are = subst (λ (ls : List Numbered). AreEventsOf ls (start settings) so.events) same so.are;
+            within = so.within;
+            run = refl;
+          };
     }
 
 pub built_head : (left rest : List Numbered) (l : Numbered) → AllBuilt left → left ≡ l ∷ rest → IsBuilt l.line
@@ -155,9 +159,9 @@ pub report_sound : (settings : Settings) → HasOnePartition settings → (lines
 report_sound settings one lines report por formed is =
     let es = is.reached.events in
     let there : IsSound settings.conflicts (execution_of (run es (start settings)).notes) =
-        record { formed = formed settings one es; consistent = por settings one es } in
+    record { formed = formed settings one es; consistent = por settings one es } in
     subst (λ (s : Report). IsSound settings.conflicts s.execution) (sym is.is)
-        (subst (λ (w : World). IsSound settings.conflicts (execution_of w.notes)) (sym is.reached.run) there)
+    (subst (λ (w : World). IsSound settings.conflicts (execution_of w.notes)) (sym is.reached.run) there)
 
 pub history_ascends : (settings : Settings) → HasOnePartition settings → (lines : List Numbered) (k : Kept) → HasReached settings lines k
     → HistoriesAscend → Ascends k.history

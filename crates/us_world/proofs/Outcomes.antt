@@ -53,7 +53,7 @@ front-past from to n w (h ∷ hs) (g ∷ gs) which d f past =
     let same : h ≡ g = same-least (least_undelivered w from to) d.0.0 f.0.0 h g d.0.1 f.0.1 d.0.2 f.0.2 in
     let rest : Flushes from to (happens w h) gs = subst (λ i. Flushes from to (happens w i) gs) (sym same) f.1 in
     let here : limit_of n (h ∷ gs) w ≡ Some which =
-        on (passed (n + 1) (happens w h)) past (λ p. front-past from to (n + 1) (happens w h) hs gs which d.1 rest p) in
+    on (passed (n + 1) (happens w h)) past (λ p. front-past from to (n + 1) (happens w h) hs gs which d.1 rest p) in
     subst (λ i. limit_of n (i ∷ gs) w ≡ Some which) same here
   where
     on : (o : Option WorldFault) → or_else o (limit_of (n + 1) hs (happens w h)) ≡ Some which
@@ -136,10 +136,10 @@ passed_by : (settings : Settings) (lines : List Numbered) (n : ℕ) (which : Wor
 passed_by settings lines n which h =
     let zero : 0 + length h.events ≡ length h.events = omega arith in
     let there =
-        leads_past h.before h.line h.after 0 (start settings) h.events h.own which h.are h.within h.first
-        (ap (λ n. limit_of n h.own (run h.events (start settings))) zero ∙ h.passes) in
+    leads_past h.before h.line h.after 0 (start settings) h.events h.own which h.are h.within h.first
+    (ap (λ n. limit_of n h.own (run h.events (start settings))) zero ∙ h.passes) in
     subst (λ m. Leads lines 0 (start settings) (Passes m which)) h.at
-        (subst (λ (ls : List Numbered). Leads ls 0 (start settings) (Passes h.line.number which)) (sym h.split) there)
+    (subst (λ (ls : List Numbered). Leads ls 0 (start settings) (Passes h.line.number which)) (sym h.split) there)
 
 same_world : (w v : World) → Reaches w ≡ Reaches v → w ≡ v
 same_world w v e = cc

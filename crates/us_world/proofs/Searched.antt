@@ -68,7 +68,7 @@ found-places f key all k (c ∷ cs) there =
 
     on : (b : Bool) → found_at all (places_of f (k + 1) (map key cs)) ≡ map (λ d. Some d) (filter (λ d. f (key d)) cs)
         → found_at all (cond b (k ∷ places_of f (k + 1) (map key cs)) (places_of f (k + 1) (map key cs))) ≡ map (λ d. Some d)
-            (cond b (c ∷ filter (λ d. f (key d)) cs) (filter (λ d. f (key d)) cs))
+        (cond b (c ∷ filter (λ d. f (key d)) cs) (filter (λ d. f (key d)) cs))
     on true e = λ i. here i ∷ e i
     on false e = e
 
@@ -106,8 +106,8 @@ both_groups s cs ps qs p q =
       where
         on : (a u : Bool) → length (filter (is_in_group s true) ds) + length (filter (is_in_group s false) ds) ≡ committed_in s ds
             → length (cond (a && u) (d ∷ filter (is_in_group s true) ds) (filter (is_in_group s true) ds)) + length
-                (cond (a && not u) (d ∷ filter (is_in_group s false) ds) (filter (is_in_group s false) ds)) ≡ cond a (committed_in s ds + 1)
-                (committed_in s ds)
+            (cond (a && not u) (d ∷ filter (is_in_group s false) ds) (filter (is_in_group s false) ds)) ≡ cond a (committed_in s ds + 1)
+            (committed_in s ds)
         on true true e = omega arith
         on true false e = omega arith
         on false u e = e
@@ -144,7 +144,7 @@ last_passes : (test : Committed → Bool) (cs : List Committed) (is : List ℕ) 
 last_passes test cs [] k less front back h = absurd (omega arith)
 last_passes test cs (i ∷ is) zero less front back h =
     on (passes test (slice_get cs i)) (front 0 0 (omega arith) (omega arith))
-        (none_passes test cs is (λ k d low high. back (suc k) d (omega arith) (omega arith)))
+    (none_passes test cs is (λ k d low high. back (suc k) d (omega arith) (omega arith)))
   where
     on : (b : Bool) → b ≡ true → greatest_found test (found_at cs is) ≡ 0
         → number_of (slice_get cs i) ≡ cond b (max (number_of (slice_get cs i)) (greatest_found test (found_at cs is)))
@@ -154,13 +154,13 @@ last_passes test cs (i ∷ is) zero less front back h =
 last_passes test cs (i ∷ is) (suc k) less front back h =
     on (passes test (slice_get cs i)) (front 0 0 (omega arith) (omega arith))
     (last_passes test cs is k (omega arith) (λ n d low high. front (suc n) d (omega arith) (omega arith))
-        (λ n d low high. back (suc n) d (omega arith) (omega arith)) h.1)
+    (λ n d low high. back (suc n) d (omega arith) (omega arith)) h.1)
     (all_at (StandsFirst test (slice_get cs i)) (λ j. slice_get cs j) is k 0 (omega arith) h.0).numbers
   where
     on : (b : Bool) → b ≡ true → number_of (slice_get cs (slice_index_or is k 0)) ≡ greatest_found test (found_at cs is)
         → number_of (slice_get cs i) ≤ number_of (slice_get cs (slice_index_or is k 0))
         → number_of (slice_get cs (slice_index_or is k 0)) ≡ cond b (max (number_of (slice_get cs i)) (greatest_found test (found_at cs is)))
-            (greatest_found test (found_at cs is))
+        (greatest_found test (found_at cs is))
     on true e same le = omega arith
     on false e same le = absurd (true≢false (sym e))
 
@@ -217,12 +217,12 @@ group_first s updates test cs keys is h falls found =
     in
     let risen : AllLater (λ (c d : Committed). c.number < d.number) xs =
     subst (λ ys. AllLater (λ (c d : Committed). c.number < d.number) ys)
-        (filter-both (λ (c : Committed). session_eq c.begun.session s) (updates_so updates) cs) rise
+    (filter-both (λ (c : Committed). session_eq c.begun.session s) (updates_so updates) cs) rise
     in
     subst (PassFirst test) (sym found)
     (later_over (StandsFirst test) (λ c. Some c) xs
     (later_in (λ (c d : Committed). c.number < d.number) (λ c d. StandsFirst test (Some c) (Some d)) xs
-        (λ c d i j less. on c d (in_filter (is_in_group s updates) c cs i) (in_filter (is_in_group s updates) d cs j) less) risen))
+    (λ c d i j less. on c d (in_filter (is_in_group s updates) c cs i) (in_filter (is_in_group s updates) d cs j) less) risen))
   where
     in_session : (c : Committed) → is_in_group s updates c ≡ true → c.begun.session ≡ s
     in_session c e = session_eq-true c.begun.session s (and_parts _ _ e).0
@@ -250,7 +250,7 @@ greatest-or p a b (c ∷ cs) h = on (p c) (a c) (b c) (h c (inl refl)) (greatest
   where
     on : (x y z : Bool) → x ≡ (y || z) → greatest p cs ≡ max (greatest a cs) (greatest b cs)
         → cond x (max c.number (greatest p cs)) (greatest p cs) ≡ max (cond y (max c.number (greatest a cs)) (greatest a cs))
-            (cond z (max c.number (greatest b cs)) (greatest b cs))
+        (cond z (max c.number (greatest b cs)) (greatest b cs))
     on true true z e k = on-both z k
       where
         on-both : (z : Bool) → greatest p cs ≡ max (greatest a cs) (greatest b cs)
@@ -273,7 +273,7 @@ greatest-none p (c ∷ cs) h = on (p c) (h c (inl refl)) (greatest-none p cs (λ
 
 pub earlier_both : (s : SessionName) (seq : ℕ) (cs : List Committed)
     → max (greatest (λ c. is_in_group s true c && is_earlier seq c) cs) (greatest (λ c. is_in_group s false c && is_earlier seq c) cs) ≡ greatest
-        (is_earlier_of s seq) cs
+    (is_earlier_of s seq) cs
 earlier_both s seq cs =
     sym (greatest-or (is_earlier_of s seq) (λ c. is_in_group s true c && is_earlier seq c) (λ c. is_in_group s false c && is_earlier seq c) cs
     (λ c i. on (session_eq c.begun.session s) (has_own_vector c) (is_earlier seq c)))
@@ -313,14 +313,14 @@ leads-either cs t others c i =
 
 direct-or : (s : SessionName) (t : Begun) (cs : List Committed) → IsNotInItsOwn cs t
     → count_of (leads_to t) s cs ≡ max (greatest (λ c. session_eq c.begun.session s &&
-        (session_eq c.begun.session t.session && nat_lt c.begun.tid.seq t.tid.seq)) cs) (greatest (is_shown_of s t.snapshot) cs)
+    (session_eq c.begun.session t.session && nat_lt c.begun.tid.seq t.tid.seq)) cs) (greatest (is_shown_of s t.snapshot) cs)
 direct-or s t cs others =
     direct-is s t cs
     ∙ greatest-or (λ c. session_eq c.begun.session s && leads_to t c)
-        (λ c. session_eq c.begun.session s && (session_eq c.begun.session t.session && nat_lt c.begun.tid.seq t.tid.seq)) (is_shown_of s t.snapshot)
-        cs
+    (λ c. session_eq c.begun.session s && (session_eq c.begun.session t.session && nat_lt c.begun.tid.seq t.tid.seq)) (is_shown_of s t.snapshot)
+    cs
     (λ c i. ap (λ b. session_eq c.begun.session s && b) (leads-either cs t others c i) ∙ on (session_eq c.begun.session s)
-        (session_eq c.begun.session t.session && nat_lt c.begun.tid.seq t.tid.seq) (has_own_vector c) (at_most c.vector t.snapshot))
+    (session_eq c.begun.session t.session && nat_lt c.begun.tid.seq t.tid.seq) (has_own_vector c) (at_most c.vector t.snapshot))
   where
     on : (a e u m : Bool) → (a && (e || (u && m))) ≡ ((a && e) || ((a && u) && m))
     on true e u m = refl
@@ -356,8 +356,8 @@ direct_other s t cs b others apart eb =
     eb
     ∙ more (greatest (is_shown_of s t.snapshot) cs)
     ∙ ap (λ n. max n (greatest (is_shown_of s t.snapshot) cs))
-        (sym (greatest-none (λ c. session_eq c.begun.session s && (session_eq c.begun.session t.session && nat_lt c.begun.tid.seq t.tid.seq)) cs
-        (λ c i. none c (session_eq c.begun.session s) refl (session_eq c.begun.session t.session) refl)))
+    (sym (greatest-none (λ c. session_eq c.begun.session s && (session_eq c.begun.session t.session && nat_lt c.begun.tid.seq t.tid.seq)) cs
+    (λ c i. none c (session_eq c.begun.session s) refl (session_eq c.begun.session t.session) refl)))
     ∙ sym (direct-or s t cs others)
   where
     more : (n : ℕ) → n ≡ max 0 n

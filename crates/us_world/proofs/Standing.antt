@@ -164,7 +164,7 @@ pub after_stepped : (k : Kept) (s place : ℕ) (e : Event) (site : Site) → s �
 after_stepped k s place e site is at =
     ap (λ n. after_at k n e) is
     ∙ ap (after_one k (place + 1) e) (nth-get k.sites (place + 1) site (omega arith)
-        (λ m f. let same : m ≡ place = omega arith in ap (λ i. slice_get k.sites i) same ∙ at))
+    (λ m f. let same : m ≡ place = omega arith in ap (λ i. slice_get k.sites i) same ∙ at))
 
 pub after_none : (k : Kept) (s : ℕ) (e : Event) → (s ≡ 0) ⊎ (length k.sites < s) → after_at k s e ≡ after_nothing k
 after_none k s e out = ap (after_one k s e) (nth-outside k.sites s out)
@@ -266,7 +266,7 @@ delivered_is old place r m packet within here there is =
 pub come_of : {A : Type 0} (r : Result A WorldFault) (place : ℕ) (old new : Kept) (after : List Sent) (packet : Packet)
     → IsDelivered place old.sent after packet
     → OnOk r (new ≡ after_at (record old { sent = after }) packet.to.site (event.Take packet))
-        → LimitSays r (passed_by (after_at (record old { sent = after }) packet.to.site (event.Take packet)))
+    → LimitSays r (passed_by (after_at (record old { sent = after }) packet.to.site (event.Take packet)))
     → HasCome r place old new
 come_of r place old new after packet d happened limit =
     let same : after_at (record old { sent = after }) packet.to.site (event.Take packet) ≡ after_delivery place d.sent old =

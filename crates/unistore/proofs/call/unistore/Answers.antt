@@ -103,7 +103,7 @@ returns-in-Some-clause-answers g c =
     let l : SinkState = record { written = g.K.Sink.written c.replay.new.sink; faults = g.K.Sink.faults c.replay.new.sink } in
     let e : form ≡ Some (Replay (is_short c.in-Some.form)) = sym c.form_of.ensures ∙ c.in-Some.is ∙ ap (λ (f : Form). Some f) (form_is c.in-Some.form) in
     let told : Replays (is_short c.in-Some.form) s t k l c.replay.result =
-        subst (λ (short : Bool). Replays short s t k l c.replay.result) c.is_short.ensures c.replay.ensures in
+    subst (λ (short : Bool). Replays short s t k l c.replay.result) c.is_short.ensures c.replay.ensures in
     subst (λ (f : Option Form). AnswersForm f s t k l c.replay.result) (sym e) told
 
 pub returns-in-Some-clause-words : goal.returns-in-Some-clause-words

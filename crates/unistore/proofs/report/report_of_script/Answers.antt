@@ -27,6 +27,6 @@ returns-clause-report c =
     in
     let sound : IfOk c.report_of_lines.result (λ report. IsSound c.args.script.config.conflicts report.execution) =
     subst (λ (s : Settings). IfOk c.report_of_lines.result (λ report. IsSound s.conflicts report.execution)) parts.ensures.settings
-        c.report_of_lines.ensures.sound
+    c.report_of_lines.ensures.sound
     in
     both c.args.script c.report_of_lines.result is sound

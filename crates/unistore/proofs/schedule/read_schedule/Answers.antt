@@ -8,5 +8,7 @@ overflow_add-parts c = let few = parts_few _ _ c.in-Ok.ensures.lines in grind ar
 
 pub read_behind-requires : goal.read_behind-requires
 read_behind-requires c =
-    record { store = subst IsBuiltStore c.in-Store.is c.in_ok-config.ensures.built;
-    number = let few = parts_few _ _ c.in-Ok.ensures.lines in omega arith }
+    record {
+      store = subst IsBuiltStore c.in-Store.is c.in_ok-config.ensures.built;
+      number = let few = parts_few _ _ c.in-Ok.ensures.lines in omega arith;
+    }

@@ -11,4 +11,4 @@ returns g c =
     let k : SinkState = record { written = None; faults = 0 } in
     let l : SinkState = record { written = None; faults = 0 } in
     sure_answer form c.args.bytes.items s t k l c.unistore.result (ap (λ (xs : List ℕ). let o : Option (List ℕ) = Some xs in o) c.new-source.ensures)
-        refl refl refl refl c.unistore.ensures.answers
+    refl refl refl refl c.unistore.ensures.answers

@@ -11,8 +11,8 @@ returns-then-count-eq0 c =
     let list = c.args.list.now in
     let is = c.args.places.now in
     let point =
-        IsPartitionPoint-from_clause (λ i. passes test (slice_get list i)) _ _ c.partition_point-count.ensures.partitioned
-        (parted test list is c.requires) (λ a r q k. search rules) in
+    IsPartitionPoint-from_clause (λ i. passes test (slice_get list i)) _ _ c.partition_point-count.ensures.partitioned
+    (parted test list is c.requires) (λ a r q k. search rules) in
     point_none test list is c.partition_point-count.result point c.if-count-eq0.true
 
 pub returns : goal.returns
@@ -21,7 +21,7 @@ returns c =
     let list = c.args.list.now in
     let is = c.args.places.now in
     let point =
-        IsPartitionPoint-from_clause (λ i. passes test (slice_get list i)) _ _ c.partition_point-count.ensures.partitioned
-        (parted test list is c.requires) (λ a r q k. search rules) in
+    IsPartitionPoint-from_clause (λ i. passes test (slice_get list i)) _ _ c.partition_point-count.ensures.partitioned
+    (parted test list is c.requires) (λ a r q k. search rules) in
     c.number_at.ensures
     ∙ point_last test list is c.partition_point-count.result point c.if-count-eq0.false c.partition_point-count.ensures.bound c.requires

@@ -7,4 +7,4 @@ use Rattle.us_world.proofs.execution.entries_of.Given as goal
 abbrev pub invariant-loop-commit : goal.invariant-loop-commit
 invariant-loop-commit l =
     l.entries ++ entries_of (unlinked_past l.committed) (map (λ c. c.now) (drop l.commit-index l.order)) ≡ entries_of (unlinked_past l.committed)
-        (map (λ c. c.now) l.order)
+    (map (λ c. c.now) l.order)

@@ -15,7 +15,7 @@ returns-in-Err-clause-limit c =
     let is : drop i all ≡ l ∷ drop (i + 1) all = drop-turn all i l c.loop-line-test.true c.line-item.is in
     subst (λ (f : LinesFault). IsLimitOf c.args.settings.now all f) (sym c.fault_at.ensures)
     (performed_stops c.args.settings.now c.in-Err.which all (drop i all) (drop (i + 1) all) l c.loop-line.world c.loop-line.invariant.performed is
-        c.in-Err.ensures.stopped)
+    c.in-Err.ensures.stopped)
 
 pub loop-line-preserved : goal.loop-line-preserved
 loop-line-preserved c =
@@ -35,4 +35,4 @@ returns-clause-reached c =
     let all = c.args.lines.now in
     let nothing_left = drop_all c.loop-line.line-index all c.loop-line-test.false in
     performed_all c.args.settings.now all c.loop-line.world
-        (subst (λ (ls : List Numbered). HasPerformed c.args.settings.now all ls c.loop-line.world) nothing_left c.loop-line.invariant.performed)
+    (subst (λ (ls : List Numbered). HasPerformed c.args.settings.now all ls c.loop-line.world) nothing_left c.loop-line.invariant.performed)

@@ -11,6 +11,6 @@ returns-in-None c =
 pub returns-in-Some : goal.returns-in-Some
 returns-in-Some c =
     begun_at c.args.tid.now c.self.inside.list.items c.self.inside.tids c.of.result.now c.in-Some.place.now c.at_place.result c.self.invariant
-        c.of.ensures c.in-Some.ensures.value
+    c.of.ensures c.in-Some.ensures.value
     (c.at_place.ensures ∙ ap (λ xs. slice_get xs c.in-Some.place.now) c.as_slice.ensures.value)
     ∙ ap (begun_of c.args.tid.now) c.self.view_is

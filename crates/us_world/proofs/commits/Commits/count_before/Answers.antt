@@ -12,7 +12,7 @@ returns-then-same_session c =
     let cs = c.args.self.now in
     subst (λ (t : Begun). IsNotInItsOwn cs t → c.max.result ≡ count_of (leads_to t) session cs) c.transaction.view_is
     (λ others. c.max.ensures ∙ direct_own session _ cs c.last_earlier.result c.last_shown-shown.result others (sym c.if-same_session.ensures)
-        c.last_earlier.ensures c.last_shown-shown.ensures)
+    c.last_earlier.ensures c.last_shown-shown.ensures)
     c.requires.others
 
 pub returns-else-same_session : goal.returns-else-same_session

@@ -12,8 +12,8 @@ earlier_at-requires c =
     let test = is_earlier c.args.seq in
     let numbered : IsIndexed cs c.self.inside.groups = subst (λ (xs : List Committed). IsIndexed xs c.self.inside.groups) c.self.view_is c.self.invariant in
     let first =
-        group_first c.args.session.now c.args.updates test cs c.self.inside.groups is numbered (earlier_falls c.args.seq cs c.requires)
-        c.places.ensures in
+    group_first c.args.session.now c.args.updates test cs c.self.inside.groups is numbered (earlier_falls c.args.seq cs c.requires)
+    c.places.ensures in
     subst (λ (xs : List Committed). PassFirst test (found_at xs is)) (sym (c.as_slice.ensures.value ∙ c.self.view_is)) first
 
 pub returns : goal.returns

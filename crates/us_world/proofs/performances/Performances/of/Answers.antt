@@ -12,5 +12,5 @@ returns c =
     let places = c.of.result.now in
     IfOk-weaker c.operations_at.result (λ ops. ops ≡ done_at c.as_slice.result.now places) (λ ops. ops ≡ ops_of tid c.args.self.now)
     (λ ops e. e ∙ ap (λ ps. done_at ps places) c.as_slice.ensures.value ∙ ops_found tid list c.self.inside.tids places c.self.invariant c.of.ensures
-        ∙ ap (ops_of tid) c.self.view_is)
+    ∙ ap (ops_of tid) c.self.view_is)
     c.operations_at.ensures

@@ -5,7 +5,7 @@ use Rattle.us_world.proofs.world.World.deliver_at.Goals as goal
 pub returns-clause-comes : goal.returns-clause-comes
 returns-clause-comes c =
     rw (← c.self.view_is) (come_of c.happen.result c.args.place _ c.happen.new.self c.delivered_copy.new.sent.items c.in_ok-packet.packet
-        c.in_ok-packet.ensures c.happen.ensures.happened c.happen.ensures.limit)
+    c.in_ok-packet.ensures c.happen.ensures.happened c.happen.ensures.limit)
 
 pub returns-in_err-packet-clause-comes : goal.returns-in_err-packet-clause-comes
 returns-in_err-packet-clause-comes c =

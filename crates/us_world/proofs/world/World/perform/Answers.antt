@@ -33,9 +33,9 @@ returns-in_ok-bytes-in-Bytes-clause-performed c =
     let bytes = c.in_ok-bytes-in-Bytes.bytes in
     subst (λ (l : Line). OnOk c.happen-in-Bytes.result (IsPerformed l old c.happen-in-Bytes.new.self)) (sym at.is)
     (subst (λ (bs : List ℕ). OnOk c.happen-in-Bytes.result (IsPerformed (line.Bytes at.site at.coord at.session bs) old c.happen-in-Bytes.new.self))
-        c.in_ok-bytes-in-Bytes.ensures
+    c.in_ok-bytes-in-Bytes.ensures
     (one_goes c.happen-in-Bytes.result (Performs (line.Bytes at.site at.coord at.session bytes)) old
-        (after_at old at.site (event.Bytes at.coord at.session bytes)) c.happen-in-Bytes.new.self
+    (after_at old at.site (event.Bytes at.coord at.session bytes)) c.happen-in-Bytes.new.self
     (one_sending old at.site at.coord at.session bytes) c.happen-in-Bytes.ensures.happened c.happen-in-Bytes.ensures.limit))
 
 pub returns-in_ok-bytes-in-Bytes-clause-stopped : goal.returns-in_ok-bytes-in-Bytes-clause-stopped
@@ -46,7 +46,7 @@ returns-in_ok-bytes-in-Bytes-clause-stopped c =
     subst (λ (l : Line). IfErr c.happen-in-Bytes.result (λ e. IsStopped l old e)) (sym at.is)
     (subst (λ (bs : List ℕ). IfErr c.happen-in-Bytes.result (λ e. IsStopped (line.Bytes at.site at.coord at.session bs) old e)) c.in_ok-bytes-in-Bytes.ensures
     (one_stops c.happen-in-Bytes.result (Performs (line.Bytes at.site at.coord at.session bytes)) old
-        (after_at old at.site (event.Bytes at.coord at.session bytes))
+    (after_at old at.site (event.Bytes at.coord at.session bytes))
     (one_sending old at.site at.coord at.session bytes) c.happen-in-Bytes.ensures.limit))
 
 pub returns-in-Close-clause-performed : goal.returns-in-Close-clause-performed
@@ -55,7 +55,7 @@ returns-in-Close-clause-performed c =
     let old = c.args.self.now in
     subst (λ (l : Line). OnOk c.happen-in-Close.result (IsPerformed l old c.happen-in-Close.new.self)) (sym at.is)
     (one_goes c.happen-in-Close.result (Performs (line.Close at.site at.coord at.session)) old
-        (after_at old at.site (event.Close at.coord at.session)) c.happen-in-Close.new.self
+    (after_at old at.site (event.Close at.coord at.session)) c.happen-in-Close.new.self
     (one_closing old at.site at.coord at.session) c.happen-in-Close.ensures.happened c.happen-in-Close.ensures.limit)
 
 pub returns-in-Close-clause-stopped : goal.returns-in-Close-clause-stopped
