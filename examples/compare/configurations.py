@@ -77,15 +77,24 @@ def space_table(chance, number, kind, pairs):
     return ["[[space]]"] + lines + more
 
 
-def good_node(chance):
+def node_table(chance, share_of_numbers, addresses, number):
+    """The table `node`, whose values these two functions draw."""
     lines = ["[node]"]
     for key in ("peers", "clients"):
         if chance.one(0.6):
-            lines.append('%s = ["%s"]' % (key, address(chance)))
+            lines.append("%s = %s" % (key, addresses(chance)))
     for key in ("tick", "suspect"):
-        if chance.one(0.6):
-            lines.append("%s = %d" % (key, chance.choice([1, 50, 10**9])))
+        if chance.one(share_of_numbers):
+            lines.append("%s = %s" % (key, number(chance)))
     return lines
+
+
+def good_node(chance):
+    return node_table(chance, 0.6, good_addresses, lambda chance: chance.choice([1, 50, 10**9]))
+
+
+def good_addresses(chance):
+    return '["%s"]' % address(chance)
 
 
 def address(chance):
@@ -179,18 +188,15 @@ def faulty_conflicts(chance, kind):
 
 
 def faulty_node(chance):
-    lines = ["[node]"]
-    for key in ("peers", "clients"):
-        if chance.one(0.6):
-            lines.append("%s = %s" % (key, faulty_addresses(chance)))
-    for key in ("tick", "suspect"):
-        if chance.one(0.5):
-            known = chance.one(0.75)
-            numbers = ["1", "50", "1000000000", "0", "1000000001", "-5"]
-            lines.append("%s = %s" % (key, chance.choice(numbers) if known else any_value(chance)))
+    lines = node_table(chance, 0.5, faulty_addresses, faulty_time)
     if chance.one(0.1):
         lines.append(chance.choice(["colour = 1", "peer = []", "tock = 1"]))
     return lines
+
+
+def faulty_time(chance):
+    known = chance.one(0.75)
+    return chance.choice(["1", "50", "1000000000", "0", "1000000001", "-5"]) if known else any_value(chance)
 
 
 def faulty_addresses(chance):
