@@ -1,14 +1,15 @@
 #!/usr/bin/env python3
-"""Writes a schedule of one session for `unistore replay`: N transactions of four operations over 40 items.
+"""Writes a schedule for `unistore replay`: N transactions of four operations over 40 items, in one session.
 
     python3 examples/speed/schedule.py N > schedule
     time crates/unistore/out/unistore replay short < schedule
 
 Each transaction adds to a counter, adds to a set, writes a register and reads a register, is committed causally, and is
-followed by a flush. A run takes at most 20,000 transactions.
+followed by a flush. A run takes at most 20,000 transactions, 512 sessions and 1,000,000 events.
 """
 
 import argparse
+from collections.abc import Iterator
 
 # the kind, number and items of each space
 SPACES = (("counter", 1, 10), ("set", 2, 10), ("register", 3, 20))
@@ -43,17 +44,32 @@ def transaction(number: int) -> str:
     )
 
 
+def lines(count: int, sessions: bool) -> Iterator[str]:
+    """The schedule's lines behind the configuration."""
+    if not sessions:
+        yield "open 1 1"
+    for number in range(count):
+        session = number + 1 if sessions else 1
+        if sessions:
+            yield "open 1 1"
+        yield f"bytes 1 1 {session} {transaction(number)}"
+        yield "flush 1 1"
+        if sessions:
+            yield f"close 1 1 {session}"
+
+
 def main() -> None:
     parser = argparse.ArgumentParser(description=__doc__, formatter_class=argparse.RawDescriptionHelpFormatter)
     parser.add_argument("count", metavar="N", type=int, help="how many transactions there are, at least 1")
-    count = parser.parse_args().count
-    if count < 1:
+    parser.add_argument("--sessions", action="store_true", help="each transaction in a session of its own, closed after it")
+    options = parser.parse_args()
+    if options.count < 1:
         parser.error("N is at least 1")
     for kind, number, _ in SPACES:
         print(f'[[space]]\nnumber = {number}\nkind = "{kind}"')
-    print("---\nopen 1 1")
-    for number in range(count):
-        print(f"bytes 1 1 1 {transaction(number)}\nflush 1 1")
+    print("---")
+    for line in lines(options.count, options.sessions):
+        print(line)
 
 
 if __name__ == "__main__":

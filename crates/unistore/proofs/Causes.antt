@@ -11,7 +11,7 @@ use Rattle.unistore.specs.declared.status.LimitKind.TheVariants.{Text}
 use Rattle.unistore.specs.declared.status.Reason.{Reason}
 use Rattle.unistore.specs.declared.status.Status.{Status}
 use Rattle.unistore.specs.declared.status.Status.TheVariants.{Done, Words, Input, ReadFault, WriteFault, LinkFault, Memory, Limit}
-use Rattle.unistore.specs.Answers.{SourceState, SinkState, Came, Performs, PassesLimit, RefusesInput, RefusesLength, AnswersForm, is_short, IsRead}
+use Rattle.unistore.specs.Answers.{SourceState, SinkState, WasRead, Performs, PassesLimit, RefusesInput, RefusesLength, AnswersForm, is_short, IsRead}
 use Rattle.unistore.specs.Answers.{IsDone, IsRefusedAt, IsRefusedInput, IfInput, IsLimited, IfLimit}
 use Rattle.unistore.specs.Schedule.{schedule_of}
 use Rattle.us_edge.specs.Faults.{Rose}
@@ -57,10 +57,10 @@ not_linked (Some (Replay short)) s t k l (inl h) = h.refuses
 not_linked (Some (Replay short)) s t k l (inr h) = no_link short (schedule_of h.text) k l h.performs
 
 -- DONE
-was-read : (s t : SourceState) (text : List ℕ) → Came text s t → IsRead s.left t.left text
+was-read : (s t : SourceState) (text : List ℕ) → WasRead text s t → IsRead s.left t.left text
 was-read s t text came = record { given = came.given; end = came.end }
 
-done_of : (short : Bool) (s t : SourceState) (k l : SinkState) (text : List ℕ) (schedule : Schedule) → Came text s t → schedule_of text ≡ schedule
+done_of : (short : Bool) (s t : SourceState) (k l : SinkState) (text : List ℕ) (schedule : Schedule) → WasRead text s t → schedule_of text ≡ schedule
     → Performs short schedule k l Done → IsDone (Some (Replay short)) s.left t.left k.written l.written
 done_of short s t k l text (Refused refusal) came e h = absurd h
 done_of short s t k l text (Read script refused) came e (inl h) = absurd h.says
@@ -102,7 +102,7 @@ write_failed (Some (Replay short)) s t k l (inl h) = h.refuses.rose
 write_failed (Some (Replay short)) s t k l (inr h) = performs-write short (schedule_of h.text) k l h.performs
 
 -- A REFUSED INPUT
-input_at : (s t : SourceState) (k l : SinkState) (text : List ℕ) (refusal : Refusal) (line : ℕ) (reason : Reason) → Came text s t
+input_at : (s t : SourceState) (k l : SinkState) (text : List ℕ) (refusal : Refusal) (line : ℕ) (reason : Reason) → WasRead text s t
     → IsRefusedAt (schedule_of text) refusal
     → RefusesInput refusal k l line reason → IsRefusedInput s.left t.left k.written l.written line reason
 input_at s t k l text refusal line reason came at h =
@@ -116,7 +116,7 @@ input_at s t k l text refusal line reason came at h =
       whole = rw (a, b) h.written;
     }
 
-input_of : (short : Bool) (s t : SourceState) (k l : SinkState) (text : List ℕ) (schedule : Schedule) (line : ℕ) (reason : Reason) → Came text s t
+input_of : (short : Bool) (s t : SourceState) (k l : SinkState) (text : List ℕ) (schedule : Schedule) (line : ℕ) (reason : Reason) → WasRead text s t
     → schedule_of text ≡ schedule
     → Performs short schedule k l (Input line reason) → IsRefusedInput s.left t.left k.written l.written line reason
 input_of short s t k l text (Refused refusal) line reason came e h =
@@ -141,7 +141,7 @@ is_input form s t k l Memory h = tt
 is_input form s t k l (Limit which line) h = tt
 
 -- A PASSED LIMIT
-limit_at : (s t : SourceState) (k l : SinkState) (text : List ℕ) (script : Script) (refused : Option Refusal) (which : LimitKind) (line : ℕ) → Came text s t
+limit_at : (s t : SourceState) (k l : SinkState) (text : List ℕ) (script : Script) (refused : Option Refusal) (which : LimitKind) (line : ℕ) → WasRead text s t
     → schedule_of text ≡ Read script refused → PassesLimit script k l (Limit which line) → IsLimited s.left t.left k.written l.written which line
 limit_at s t k l text script refused which line came e h =
     let a : which ≡ h.which = h.says.same_kind in
@@ -162,7 +162,7 @@ limit_at s t k l text script refused which line came e h =
       whole = rw (a, b) h.says.written;
     }
 
-limit_of : (short : Bool) (s t : SourceState) (k l : SinkState) (text : List ℕ) (schedule : Schedule) (which : LimitKind) (line : ℕ) → Came text s t
+limit_of : (short : Bool) (s t : SourceState) (k l : SinkState) (text : List ℕ) (schedule : Schedule) (which : LimitKind) (line : ℕ) → WasRead text s t
     → schedule_of text ≡ schedule
     → Performs short schedule k l (Limit which line) → IsLimited s.left t.left k.written l.written which line
 limit_of short s t k l text (Refused refusal) which line came e h = absurd h

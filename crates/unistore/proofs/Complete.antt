@@ -16,7 +16,7 @@ use Rattle.unistore.specs.Report.{PassAt}
 use Rattle.unistore.specs.Schedule.{schedule_of}
 use Rattle.us_world.specs.declared.fault.WorldFault.{WorldFault}
 use Rattle.unistore.proofs.Causes.{no_form, not_linked, read_failed, write_failed}
-use Rattle.unistore.proofs.Sure.{given_whole, given_more}
+use Rattle.unistore.proofs.InfallibleReplay.{given_whole, given_more}
 
 -- by lines none of which is refused and which pass no limit, no input is refused
 not_input : (short : Bool) (k l : SinkState) (script : Script) (line : ℕ) (reason : Reason) → Performs short (Read script None) k l (Input line reason) → ⊥

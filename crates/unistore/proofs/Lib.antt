@@ -1,6 +1,6 @@
 mod Reading
 mod Texts
 mod Causes
-mod Sure
+mod InfallibleReplay
 mod Complete
 pub mod Built

@@ -47,7 +47,7 @@ pub record SinkState : Type 0 where
 abbrev pub Writes : SinkState → SinkState → List ℕ → Type 0
 Writes before after text = Appends before.written after.written text
 
--- a front of the text was written, and then a write failed
+-- a prefix of the text was written, and then a write failed
 pub record FailsIn (before after : SinkState) (text : List ℕ) : Type 0 where
   pub part : AppendsPrefix before.written after.written text
   pub rose : Rose before.faults after.faults
@@ -59,7 +59,7 @@ WritesNothing before after = after.written ≡ before.written
 -- ---- the text that came
 
 -- the source gave the text, which is within the limit, and ended
-pub record Came (text : List ℕ) (before after : SourceState) : Type 0 where
+pub record WasRead (text : List ℕ) (before after : SourceState) : Type 0 where
   pub given : Gives before.left after.left text
   pub end : IsAtEnd after.left
   pub within : length text ≤ 2 ^ 28
@@ -117,7 +117,7 @@ abbrev pub PassedFault : LinesFault → SinkState → SinkState → Status → T
 PassedFault (ends.Limit line which) before after status = PassedKind (kind_of which) line before after status
 PassedFault ends.Memory before after status = RunsOut before after status
 
--- the report was written whole, or a front of it
+-- the report was written whole, or a prefix of it
 abbrev pub Tells : Bool → Report → SinkState → SinkState → Status → Type 0
 Tells short report before after Done = Writes before after (text_of short report)
 Tells short report before after WriteFault = FailsIn before after (text_of short report)
@@ -160,7 +160,7 @@ Performs short (Read script refused) before after status =
 -- a text came whole, and of what it says the status says this
 pub record Performed (short : Bool) (source source_after : SourceState) (sink sink_after : SinkState) (status : Status) : Type 0 where
   pub text : List ℕ
-  pub came : Came text source source_after
+  pub came : WasRead text source source_after
   pub performs : Performs short (schedule_of text) sink sink_after status
 
 -- what a status says where too much came
@@ -289,7 +289,7 @@ IsStatusOf (Refused refusal) status = status ≡ input refusal
 IsStatusOf (Read script refused) status = (HaveWorld script × (status ≡ status_behind refused)) ⊎ IsPassedStatus script status
 
 -- the answer where no read and no write fails and there is memory
-abbrev pub IsSure : Option Form → List ℕ → Status → Type 0
-IsSure None text status = status ≡ Words
-IsSure (Some (Replay short)) text status =
+abbrev pub IsExpected : Option Form → List ℕ → Status → Type 0
+IsExpected None text status = status ≡ Words
+IsExpected (Some (Replay short)) text status =
     ((2 ^ 28 < length text) × (status ≡ Limit Text 0)) ⊎ ((length text ≤ 2 ^ 28) × IsStatusOf (schedule_of text) status)

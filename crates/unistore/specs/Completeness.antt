@@ -1,4 +1,4 @@
--- Where nothing but want of memory keeps a call from being done.
+-- Where only running out of memory keeps a call from being done.
 use Rattle.std.specs.Prelude.{◌≡◌, ℕ, ◌^◌, ◌≤◌, List, length, Option, Some, None}
 use Rattle.us_world.specs.declared.fault.WorldFault.{WorldFault}
 use Rattle.unistore.specs.declared.form.Form.{Form}

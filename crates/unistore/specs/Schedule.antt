@@ -5,7 +5,7 @@ use Rattle.us_schedule.specs.declared.line.Line.{Line}
 use Rattle.us_schedule.specs.declared.line.Line.TheVariants.{Open, Bytes, Close, Deliver, Flush}
 use Rattle.us_schedule.specs.declared.fault.LineFault.{LineFault}
 use Rattle.us_schedule.specs.declared.fault.LineFault.TheVariants as fault
-use Rattle.us_schedule.specs.Lines.{Read, Skipped, Found, line_read}
+use Rattle.us_schedule.specs.Lines.{Read, Skipped, Parsed, line_read}
 use Rattle.us_schedule.specs.Lines.{Refused as Unread}
 use Rattle.us_schedule.specs.Text.{text_lines, Parted, parted_text}
 use Rattle.us_model.specs.declared.settings.Settings.{Settings}
@@ -45,7 +45,7 @@ pub data Said : Type 0 where
   Performs : Line → Said
   Refuses : Reason → Said
 
--- the reason of the grammar; it gives want of memory for none
+-- the reason of the grammar; it gives out of memory for none
 abbrev pub reason_of : LineFault → Reason
 reason_of fault.BadWord = BadWord
 reason_of fault.BadNumber = BadNumber
@@ -55,7 +55,7 @@ reason_of fault.Memory = NotBuilt
 
 abbrev pub said_of : Read → Said
 said_of Skipped = Nothing
-said_of (Found line) = if is_performed line then Performs line else Refuses NotBuilt
+said_of (Parsed line) = if is_performed line then Performs line else Refuses NotBuilt
 said_of (Unread e) = Refuses (reason_of e)
 
 abbrev pub said : Shape → List ℕ → Said
@@ -101,7 +101,7 @@ store_of config =
     then configured.Store config
     else configured.Refused (record { line = 0; reason = NotBuilt })
 
--- what the configuration says; its meaning is never want of memory
+-- what the configuration says; its meaning is never out of memory
 abbrev pub configured_by : Result Config ReadFault → Configured
 configured_by (Ok config) = store_of config
 configured_by (Err (read.Refused key fault)) = configured.Refused (record { line = 0; reason = BadConfig key fault })

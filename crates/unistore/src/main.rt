@@ -1,28 +1,28 @@
 //! The replicated store as a program: `unistore replay` reads a schedule and writes the report of its run.
 #![tactic(auto)]
 
+mod arguments;
 mod call;
 pub mod edge;
 mod form;
+mod infallible;
 mod replay;
 mod report;
 mod schedule;
 mod status;
-mod surely;
-mod words;
 
+use arguments::arguments_of;
 pub use call::unistore;
 use edge::{ListClock, SureLinks};
+pub use infallible::replay_infallible;
 pub use schedule::{Configured, Refusal, Schedule, Script, read_schedule};
 pub use status::{LimitKind, Reason, Status};
 use std::process::ExitCode;
-pub use surely::replay_surely;
 use us_real::{StdinSource, StdoutSink};
-use words::words_of;
 
 fn main(rt: HostRuntime) -> ExitCode {
     let alloc = rt.alloc();
-    let status = match words_of(&rt) {
+    let status = match arguments_of(&rt) {
         Ok(words) => unistore(
             alloc,
             words.as_slice(),

@@ -77,7 +77,7 @@ pub enum Status {
     Input { line: u64, reason: Reason },
     /// A read failed, and the source counted it.
     ReadFault,
-    /// A write failed, and the sink counted it. A front of the text was written.
+    /// A write failed, and the sink counted it. A prefix of the text was written.
     WriteFault,
     /// The links did not start, and counted it.
     LinkFault,

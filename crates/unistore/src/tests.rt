@@ -1,7 +1,7 @@
 ghost use Rattle.std.specs.Prelude.{◌≤◌};
 
 use crate::edge::{ListClock, MemorySink, MemorySource};
-use crate::{LimitKind, Reason, Status, replay_surely, unistore};
+use crate::{LimitKind, Reason, Status, replay_infallible, unistore};
 use std::alloc::Global;
 use std::test::Fail;
 use us_edge::SureLinks;
@@ -557,7 +557,7 @@ fn without_failures(rt: HostRuntime) -> Result<(), Fail> {
     ] {
         let bytes = Vec::from_slice(alloc, input.as_bytes())?;
         let mut clock = ListClock::new(Vec::new(alloc));
-        let status = replay_surely(
+        let status = replay_infallible(
             alloc,
             words.as_slice(),
             bytes,

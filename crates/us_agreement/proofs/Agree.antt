@@ -1,27 +1,27 @@
--- Of chosen lists one is the front of the other, and what is chosen is held by f + 1 sites.
+-- Of chosen lists one is a prefix of the other, and what is chosen is held by f + 1 sites.
 use Rattle.std.proofs.Common.{◌≡◌, ◌⊎◌, inl, inr, ⊎_elim, ℕ, ◌+◌, ◌*◌, ◌<◌, ◌≤◌, List, length, drop, Bool, true, Some, sym, ◌∙◌, arith}
 use Rattle.std.specs.Prelude.{slice_get}
 use Rattle.std.proofs.lemmas.Bool.{cases_eq}
-use Rattle.us_kind.specs.Words.{In}
+use Rattle.us_kind.specs.Comparison.{In}
 use Rattle.us_ballot_model.specs.declared.log.BallotLog.{BallotLog}
 use Rattle.us_ballot_model.specs.Ballots.{sites}
 use Rattle.us_ballot_model.specs.Worlds.{World}
-use Rattle.us_agreement.specs.Words.{count}
-use Rattle.us_agreement.specs.Laws.{IsFront, IsHeldByMany, chosen_at}
+use Rattle.us_agreement.specs.SiteCounts.{count}
+use Rattle.us_agreement.specs.Laws.{IsPrefix, IsHeldByMany, chosen_at}
 use Rattle.us_agreement.proofs.Same.{IsDecided, some_below, Same, same_sym, same_trans, same_less, same_length, decide_same}
 use Rattle.us_agreement.proofs.History.{Ack, Start, initial, Choice, IsStarted, Blocked, blocked_more, ChoiceOk, not_blocked, choice_above}
 use Rattle.us_agreement.proofs.Growth.{LogOk, is_own, is_blocked, is_learned}
 use Rattle.us_agreement.proofs.Logs.{le_or_lt, compare, compare_chosen}
 use Rattle.us_agreement.proofs.Counting.{length_sites}
 use Rattle.us_agreement.proofs.Facts.{Past, whole, Chosen, SiteOk, HistoryOk}
-use Rattle.us_agreement.proofs.Kept.{reads_front}
+use Rattle.us_agreement.proofs.Preservation.{reads_front}
 use Rattle.us_agreement.proofs.Runs.{WorldOk}
 
-front_of : {E : Type 0} (xs ys : List E) → length xs ≤ length ys → Same (length xs) xs ys → IsFront xs ys
+front_of : {E : Type 0} (xs ys : List E) → length xs ≤ length ys → Same (length xs) xs ys → IsPrefix xs ys
 front_of xs ys le same = record { rest = drop (length xs) ys; is = reads_front xs ys (λ k l. sym (same.at k l)) }
 
 module _ {E : Type 0} (dec : IsDecided E) (f : ℕ) (p : Past E) (hist : HistoryOk f p) where
-  fronts : (xs ys : List E) → Chosen p xs → Chosen p ys → IsFront xs ys ⊎ IsFront ys xs
+  fronts : (xs ys : List E) → Chosen p xs → Chosen p ys → IsPrefix xs ys ⊎ IsPrefix ys xs
   fronts xs ys a b = ⊎_elim
       (λ (l : length xs ≤ length ys). inl (front_of xs ys l
       (compare_chosen dec (sites f) p.starts p.logs p.choices p.told hist.starts hist.choices hist.started xs ys a b (length xs) (omega arith)
@@ -113,7 +113,7 @@ module _ {E : Type 0} (dec : IsDecided E) (f : ℕ) (p : Past E) (hist : History
       )
 
 pub lists_agree : {E : Type 0} (dec : IsDecided E) (f : ℕ) (w : World E) → WorldOk f w → (s t : ℕ)
-    → IsFront (chosen_at w s) (chosen_at w t) ⊎ IsFront (chosen_at w t) (chosen_at w s)
+    → IsPrefix (chosen_at w s) (chosen_at w t) ⊎ IsPrefix (chosen_at w t) (chosen_at w s)
 lists_agree dec f w h s t = fronts dec f h.past h.facts.history (chosen_at w s) (chosen_at w t) (h.facts.site s).chosen (h.facts.site t).chosen
 
 pub held_by_many : {E : Type 0} (dec : IsDecided E) (f : ℕ) (w : World E) → WorldOk f w → (s slot : ℕ) (e : E)

@@ -2,8 +2,8 @@
 use Rattle.std.proofs.Common.{◌≡◌, ℕ, List, ◌++◌, Bool, Some, sym, ap, ◌∙◌, subst}
 use Rattle.std.specs.Prelude.{slice_get}
 use Rattle.std.specs.Bool.{Decides}
-use Rattle.us_ballot_model.specs.Worlds.{World, Happening, opening_world}
-use Rattle.us_agreement.specs.Laws.{IsFront, after, chosen_at, ChosenListsAgree, ChosenListsGrow, ChosenEntriesWereAppended, ChosenEntriesAreHeld}
+use Rattle.us_ballot_model.specs.Worlds.{World, WorldEvent, opening_world}
+use Rattle.us_agreement.specs.Laws.{IsPrefix, after, chosen_at, ChosenListsAgree, ChosenListsGrow, ChosenEntriesWereAppended, ChosenEntriesAreHeld}
 use Rattle.us_agreement.specs.Laws.{TailsAreShort}
 use Rattle.us_agreement.proofs.Same.{get_front, some_below}
 use Rattle.us_agreement.proofs.Runs.{dec, every_run_ok}
@@ -11,13 +11,13 @@ use Rattle.us_agreement.proofs.Agree.{lists_agree, held_by_many}
 use Rattle.us_agreement.proofs.Entries.{Known, run_goes, run_both, opening_known}
 
 module _ {E : Type 0} (eq : E → E → Bool) where
-  known_after : (f : ℕ) (hs : List (Happening E)) → Known (after eq f hs)
+  known_after : (f : ℕ) (hs : List (WorldEvent E)) → Known (after eq f hs)
   known_after f hs = (run_goes eq f hs (opening_world f) (opening_known E f)).known
 
   pub grow : ChosenListsGrow eq
   grow f hs more s =
       let g = run_goes eq f more (after eq f hs) (known_after f hs) in
-      let P : World E → Type 0 = λ w. IsFront (chosen_at (after eq f hs) s) (chosen_at w s) in
+      let P : World E → Type 0 = λ w. IsPrefix (chosen_at (after eq f hs) s) (chosen_at w s) in
       subst P (sym (run_both eq f hs more (opening_world f))) (g.longer s)
 
   pub were_appended : ChosenEntriesWereAppended eq

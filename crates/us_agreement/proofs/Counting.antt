@@ -3,10 +3,10 @@ use Rattle.std.proofs.Common.{◌≡◌, inl, inr, ⊎_elim, ℕ, zero, suc, ◌
 use Rattle.std.proofs.Common.{refl, sym, ap, subst, arith, true≢false}
 use Rattle.std.specs.Prelude.{◌==◌, ◌||◌, ◌&&◌, nat_lt, slice_get}
 use Rattle.std.proofs.lemmas.Bool.{cases_eq, eq-eqb, eqb-true, or_cases, and_parts, lt-ltb}
-use Rattle.us_kind.specs.Words.{In}
-use Rattle.us_ballot_model.specs.declared.log.Vow.{Vow}
-use Rattle.us_ballot_model.specs.Ballots.{sites_from, sites, vowed, at_least, flat, backers, ack_of}
-use Rattle.us_agreement.specs.Words.{one_if, count}
+use Rattle.us_kind.specs.Comparison.{In}
+use Rattle.us_ballot_model.specs.declared.log.PromisedLog.{PromisedLog}
+use Rattle.us_ballot_model.specs.Ballots.{sites_from, sites, has_promised, at_least, flat, backers, ack_of}
+use Rattle.us_agreement.specs.SiteCounts.{one_if, count}
 use Rattle.us_agreement.proofs.Facts.{AllApart}
 
 one_less : (a b : Bool) → (a ≡ true → b ≡ true) → one_if a ≤ one_if b
@@ -48,11 +48,11 @@ and_true : (a b : Bool) → a ≡ true → b ≡ true → (a && b) ≡ true
 and_true a b e g = rw e g
 
 -- PROMISES of different sites
-vowed_not : {E : Type 0} (vs : List (Vow E)) (z : ℕ) → ((u : Vow E) → In u vs → u.site ≡ z → ⊥) → vowed vs z ≡ false
-vowed_not [] z h = refl
-vowed_not (v ∷ vs) z h = on (v.site == z) refl (vowed_not vs z (λ u i e. h u (inr i) e))
+has_promised_not : {E : Type 0} (vs : List (PromisedLog E)) (z : ℕ) → ((u : PromisedLog E) → In u vs → u.site ≡ z → ⊥) → has_promised vs z ≡ false
+has_promised_not [] z h = refl
+has_promised_not (v ∷ vs) z h = on (v.site == z) refl (has_promised_not vs z (λ u i e. h u (inr i) e))
   where
-    on : (b : Bool) → (v.site == z) ≡ b → vowed vs z ≡ false → (b || vowed vs z) ≡ false
+    on : (b : Bool) → (v.site == z) ≡ b → has_promised vs z ≡ false → (b || has_promised vs z) ≡ false
     on true e k = absurd (h v (inl refl) (eqb-true v.site z e))
     on false e k = k
 
@@ -63,18 +63,18 @@ or_right false b e = e
 or_left : (a b : Bool) → a ≡ true → (a || b) ≡ true
 or_left a b e = rw e refl
 
-pub vows_count : {E : Type 0} (vs : List (Vow E)) (xs : List ℕ) → ((v : Vow E) → In v vs → In v.site xs) → AllApart vs → length vs ≤ count (vowed vs) xs
-vows_count [] xs h a = omega arith
-vows_count (v ∷ vs) xs h a =
-    let k = vows_count vs xs (λ u i. h u (inr i)) a.1 in
+pub promises_count : {E : Type 0} (vs : List (PromisedLog E)) (xs : List ℕ) → ((v : PromisedLog E) → In v vs → In v.site xs) → AllApart vs → length vs ≤ count (has_promised vs) xs
+promises_count [] xs h a = omega arith
+promises_count (v ∷ vs) xs h a =
+    let k = promises_count vs xs (λ u i. h u (inr i)) a.1 in
     let l =
-    count_more (vowed vs) (vowed (v ∷ vs)) xs v.site (λ z e. or_right (v.site == z) (vowed vs z) e) (h v (inl refl))
-    (or_left (v.site == v.site) (vowed vs v.site) (eq-eqb v.site v.site refl)) (vowed_not vs v.site a.0) in
+    count_more (has_promised vs) (has_promised (v ∷ vs)) xs v.site (λ z e. or_right (v.site == z) (has_promised vs z) e) (h v (inl refl))
+    (or_left (v.site == v.site) (has_promised vs v.site) (eq-eqb v.site v.site refl)) (has_promised_not vs v.site a.0) in
     omega arith
 
-pub vowed_in : {E : Type 0} (vs : List (Vow E)) (z : ℕ) → vowed vs z ≡ true → (v : Vow E) × In v vs × (v.site ≡ z)
-vowed_in [] z e = absurd (true≢false (sym e))
-vowed_in (v ∷ vs) z e = ⊎_elim (λ a. (v, inl refl, eqb-true v.site z a)) (λ a. let r = vowed_in vs z a in (r.0, inr r.1, r.2)) (or_cases _ _ e)
+pub has_promised_in : {E : Type 0} (vs : List (PromisedLog E)) (z : ℕ) → has_promised vs z ≡ true → (v : PromisedLog E) × In v vs × (v.site ≡ z)
+has_promised_in [] z e = absurd (true≢false (sym e))
+has_promised_in (v ∷ vs) z e = ⊎_elim (λ a. (v, inl refl, eqb-true v.site z a)) (λ a. let r = has_promised_in vs z a in (r.0, inr r.1, r.2)) (or_cases _ _ e)
 
 -- ACKNOWLEDGEMENTS by place
 none_reaches : (n : ℕ) (acks : List (Option ℕ)) → ((j : ℕ) → at_least n (flat (slice_get acks j)) ≡ true → ⊥) → backers acks n ≡ 0

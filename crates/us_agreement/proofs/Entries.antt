@@ -4,27 +4,27 @@ use Rattle.std.proofs.Common.{drop, Bool, true, Option, Some, None, refl, sym, a
 use Rattle.std.specs.Prelude.{◌==◌, ◌&&◌, if◌then◌else◌, nat_lt, nat_le, max, slice_get}
 use Rattle.std.specs.List.{starts_with}
 use Rattle.std.proofs.lemmas.Bool.{cond_both, ltb-true, and_parts}
-use Rattle.us_kind.specs.Words.{In}
+use Rattle.us_kind.specs.Comparison.{In}
 use Rattle.us_kind.proofs.ListLemmas.{in_either, in_front, in_back, in_push, in_got}
-use Rattle.us_ballot_model.specs.declared.log.Vow.{Vow}
+use Rattle.us_ballot_model.specs.declared.log.PromisedLog.{PromisedLog}
 use Rattle.us_ballot_model.specs.declared.log.Role.{Role}
-use Rattle.us_ballot_model.specs.declared.log.Role.TheVariants.{Follows, Collects, Leads}
+use Rattle.us_ballot_model.specs.declared.log.Role.TheVariants.{Follower, Candidate, Leader}
 use Rattle.us_ballot_model.specs.declared.log.BallotLog.{BallotLog}
 use Rattle.us_ballot_model.specs.declared.message.BallotMessage.{BallotMessage}
 use Rattle.us_ballot_model.specs.declared.message.BallotMessage.TheVariants.{NewBallot, Promise, NewState, Accept, Accepted, CatchUp, Learn}
 use Rattle.us_ballot_model.specs.Ballots.{LAST, WINDOW, next_ballot, others, to_others, count, held, best, ack_of, first_acks}
 use Rattle.us_ballot_model.specs.Rules.{Stepped, sending, dropped, before, ready_as, advanced, advance, led, begin, start_by, best_of, due}
-use Rattle.us_ballot_model.specs.Rules.{start_with, start, collecting, lead, may_follow, following, new_ballot, may_promise, with_vow, recorded}
+use Rattle.us_ballot_model.specs.Rules.{start_with, start, collecting, lead, may_follow, following, new_ballot, may_promise, with_promise, recorded}
 use Rattle.us_ballot_model.specs.Rules.{promise, restated, acknowledging, state_in, new_state, may_accept, joined, accept_in, tell_accepted, accept}
 use Rattle.us_ballot_model.specs.Rules.{with_ack, heard, may_hear, accepted, catch_up, trimmed, learnt, known, may_learn, learn_from, learn}
 use Rattle.us_ballot_model.specs.Rules.{take_message, missing, accepts, repeated, repeats, tick, may_append, put_in, append}
-use Rattle.us_ballot_model.specs.Worlds.{Sent, World, Happening, Leads as LeadsNow, Appends, Ticks, Crashes, Comes, put, sent_by, acts, stepped}
-use Rattle.us_ballot_model.specs.Worlds.{steps, comes, happens, run, opening_world}
-use Rattle.us_agreement.specs.Laws.{IsFront, chosen_at}
+use Rattle.us_ballot_model.specs.Worlds.{Sent, World, WorldEvent, Lead, Append, Tick, Crash, Deliver, put, sent_by, acts, stepped}
+use Rattle.us_ballot_model.specs.Worlds.{steps, deliver_packet, world_step, run, opening_world}
+use Rattle.us_agreement.specs.Laws.{IsPrefix, chosen_at}
 use Rattle.us_agreement.proofs.Facts.{at_each}
 use Rattle.us_agreement.proofs.Steps.{in_mapped}
 use Rattle.us_agreement.proofs.Starting.{best_in}
-use Rattle.us_agreement.proofs.Kept.{in_gathered}
+use Rattle.us_agreement.proofs.Preservation.{in_gathered}
 
 -- a short list of entries that were appended
 pub record IsTail {E : Type 0} (app : List E) (t : List E) : Type 0 where
@@ -41,9 +41,9 @@ MessageKnown app (CatchUp n) = Unit {0}
 MessageKnown {E} app (Learn first es) = (e : E) → In e es → In e app
 
 abbrev pub RoleKnown : {E : Type 0} → List E → Role E → Type 0
-RoleKnown app Follows = Unit {0}
-RoleKnown {E} app (Collects vows) = (v : Vow E) → In v vows → IsTail app v.tail
-RoleKnown app (Leads acks) = Unit {0}
+RoleKnown app Follower = Unit {0}
+RoleKnown {E} app (Candidate promises) = (v : PromisedLog E) → In v promises → IsTail app v.tail
+RoleKnown app (Leader acks) = Unit {0}
 
 pub record LogKnown {E : Type 0} (app : List E) (c : BallotLog E) : Type 0 where
   pub chosen : (e : E) → In e c.chosen → In e app
@@ -54,18 +54,18 @@ pub record LogKnown {E : Type 0} (app : List E) (c : BallotLog E) : Type 0 where
 pub record Leaves {E : Type 0} (app old : List E) (c' : BallotLog E) (ms : List (ℕ × BallotMessage E)) : Type 0 where
   pub log : LogKnown app c'
   pub sends : (m : ℕ × BallotMessage E) → In m ms → MessageKnown app m.1
-  pub grows : IsFront old c'.chosen
+  pub grows : IsPrefix old c'.chosen
 
 abbrev pub Yields : {E : Type 0} → List E → BallotLog E → Stepped E → Type 0
 Yields app c r = LogKnown app c → Leaves app c.chosen r.log r.out.sends
 
-pub front_self : {E : Type 0} (xs : List E) → IsFront xs xs
+pub front_self : {E : Type 0} (xs : List E) → IsPrefix xs xs
 front_self xs = record { rest = []; is = sym (append-nil xs) }
 
-pub front_more : {E : Type 0} (xs ys : List E) → IsFront xs (xs ++ ys)
+pub front_more : {E : Type 0} (xs ys : List E) → IsPrefix xs (xs ++ ys)
 front_more xs ys = record { rest = ys; is = refl }
 
-pub front_trans : {E : Type 0} {xs ys zs : List E} → IsFront xs ys → IsFront ys zs → IsFront xs zs
+pub front_trans : {E : Type 0} {xs ys zs : List E} → IsPrefix xs ys → IsPrefix ys zs → IsPrefix xs zs
 front_trans {E} {xs} {ys} {zs} h k = record { rest = h.rest ++ k.rest; is = k.is ∙ ap (λ l. l ++ k.rest) h.is ∙ append_assoc xs h.rest k.rest }
 
 in_drop : {E : Type 0} (n : ℕ) (e : E) (xs : List E) → In e (drop n xs) → In e xs
@@ -125,7 +125,7 @@ module _ {E : Type 0} (app : List E) where
       })
       (λ t. rests c)
 
-  start_at : (c : BallotLog E) (v : Vow E) → IsTail app v.tail → Yields app c (start_by c v)
+  start_at : (c : BallotLog E) (v : PromisedLog E) → IsTail app v.tail → Yields app c (start_by c v)
   start_at c v ok = cond_both (nat_lt (count c) v.base) (sending c ((v.site, CatchUp (count c)) ∷ [])) (begin (led c v)) (λ (r : Stepped E). Yields app c r)
       (λ t. says_one c v.site (CatchUp (count c)) (λ h. tt))
       (λ t h. and_more c (led c v) (advance (led c v)).log (to_others (led c v) (NewState c.ballot (count c) (led c v).tail)) (advance (led c v)).out.sends
@@ -136,15 +136,15 @@ module _ {E : Type 0} (app : List E) where
       })
       (advance_grows (led c v)))
 
-  start_of : (c : BallotLog E) (vows : List (Vow E)) → ((v : Vow E) → In v vows → IsTail app v.tail) → Yields app c (start_with c (best_of vows))
+  start_of : (c : BallotLog E) (promises : List (PromisedLog E)) → ((v : PromisedLog E) → In v promises → IsTail app v.tail) → Yields app c (start_with c (best_of promises))
   start_of c [] ok = rests c
   start_of c (v ∷ vs) ok = start_at c (best v vs) (ok (best v vs) (best_in v vs))
 
   start_in : (c : BallotLog E) (r : Role E) → RoleKnown app r → Yields app c (start_with c (due c r))
-  start_in c Follows ok = rests c
-  start_in c (Leads acks) ok = rests c
-  start_in c (Collects vows) ok =
-      cond_both (nat_lt c.f (length vows)) (best_of vows) None (λ (o : Option (Vow E)). Yields app c (start_with c o)) (λ t. start_of c vows ok)
+  start_in c Follower ok = rests c
+  start_in c (Leader acks) ok = rests c
+  start_in c (Candidate promises) ok =
+      cond_both (nat_lt c.f (length promises)) (best_of promises) None (λ (o : Option (PromisedLog E)). Yields app c (start_with c o)) (λ t. start_of c promises ok)
       (λ t. rests c)
 
   start_grows : (c : BallotLog E) → Yields app c (start c)
@@ -162,7 +162,7 @@ module _ {E : Type 0} (app : List E) where
       let b = next_ballot c.f c.site c.ballot in
       and_more c (collecting c b) (start (collecting c b)).log (to_others c (NewBallot b)) (start (collecting c b)).out.sends
       (record {
-        log = record { chosen = h.chosen; tail = h.tail; role = λ v i. ⊎_elim (λ q. subst (λ (u : Vow E). IsTail app u.tail) q h.tail) (λ n. absurd n) i };
+        log = record { chosen = h.chosen; tail = h.tail; role = λ v i. ⊎_elim (λ q. subst (λ (u : PromisedLog E). IsTail app u.tail) q h.tail) (λ n. absurd n) i };
         sends = to_all c (NewBallot b) tt;
         grows = front_self c.chosen;
       })
@@ -180,16 +180,16 @@ module _ {E : Type 0} (app : List E) where
       })
       (λ t. rests c)
 
-  vow_role : (r : Role E) (v : Vow E) → RoleKnown app r → IsTail app v.tail → RoleKnown app (with_vow r v)
-  vow_role Follows v h ok = tt
-  vow_role (Leads acks) v h ok = tt
-  vow_role (Collects vows) v h ok = in_push (λ u. IsTail app u.tail) vows v h ok
+  promise_role : (r : Role E) (v : PromisedLog E) → RoleKnown app r → IsTail app v.tail → RoleKnown app (with_promise r v)
+  promise_role Follower v h ok = tt
+  promise_role (Leader acks) v h ok = tt
+  promise_role (Candidate promises) v h ok = in_push (λ u. IsTail app u.tail) promises v h ok
 
-  promise_grows : (c : BallotLog E) (b : ℕ) (v : Vow E) → IsTail app v.tail → Yields app c (promise c b v)
+  promise_grows : (c : BallotLog E) (b : ℕ) (v : PromisedLog E) → IsTail app v.tail → Yields app c (promise c b v)
   unfolding promise
   promise_grows c b v ok = cond_both (may_promise c v.site b c.role) (start (recorded c v)) (dropped c) (λ (r : Stepped E). Yields app c r)
       (λ t h. and_more c (recorded c v) (start (recorded c v)).log [] (start (recorded c v)).out.sends
-      (record { log = record { chosen = h.chosen; tail = h.tail; role = vow_role c.role v h.role ok }; sends = λ m i. absurd i; grows = front_self c.chosen })
+      (record { log = record { chosen = h.chosen; tail = h.tail; role = promise_role c.role v h.role ok }; sends = λ m i. absurd i; grows = front_self c.chosen })
       (start_grows (recorded c v)))
       (λ t. rests c)
 
@@ -198,10 +198,10 @@ module _ {E : Type 0} (app : List E) where
       (λ t. record { chosen = h.chosen; tail = drop_tail (count c - base) tail ok; role = h.role })
       (λ t. h)
 
-  restated_chosen : (c : BallotLog E) (b base : ℕ) (tail : List E) → IsFront c.chosen (restated c b base tail).chosen
+  restated_chosen : (c : BallotLog E) (b base : ℕ) (tail : List E) → IsPrefix c.chosen (restated c b base tail).chosen
   restated_chosen c b base tail =
       cond_both (nat_lt c.accepted b) (record c { tail = drop (count c - base) tail; accepted = b }) c
-      (λ (d : BallotLog E). IsFront c.chosen d.chosen) (λ t. front_self c.chosen) (λ t. front_self c.chosen)
+      (λ (d : BallotLog E). IsPrefix c.chosen d.chosen) (λ t. front_self c.chosen) (λ t. front_self c.chosen)
 
   state_grows : (c : BallotLog E) (from b base : ℕ) (tail : List E) → IsTail app tail → Yields app c (state_in c from b base tail)
   state_grows c from b base tail ok =
@@ -253,9 +253,9 @@ module _ {E : Type 0} (app : List E) where
       (λ t. rests c)
 
   ack_role : (r : Role E) (from n : ℕ) → RoleKnown app r → RoleKnown app (with_ack r from n)
-  ack_role Follows from n h = tt
-  ack_role (Collects vows) from n h = h
-  ack_role (Leads acks) from n h = tt
+  ack_role Follower from n h = tt
+  ack_role (Candidate promises) from n h = h
+  ack_role (Leader acks) from n h = tt
 
   accepted_grows : (c : BallotLog E) (from b n : ℕ) → Yields app c (accepted c from b n)
   unfolding accepted
@@ -315,14 +315,14 @@ module _ {E : Type 0} (app : List E) where
       (λ e k. h.tail.known e (in_drop (max n (count c) - count c) e c.tail k)) x i
 
   repeats_known : (c : BallotLog E) → LogKnown app c → (r : Role E) (x : ℕ × BallotMessage E) → In x (repeats c r) → MessageKnown app x.1
-  repeats_known c h Follows x i = absurd i
-  repeats_known c h (Collects vows) x i =
-      cond_both (nat_lt c.f (length vows)) [] (map (λ j. (j, NewBallot c.ballot)) (missing c vows)) (λ l. In x l → MessageKnown app x.1)
+  repeats_known c h Follower x i = absurd i
+  repeats_known c h (Candidate promises) x i =
+      cond_both (nat_lt c.f (length promises)) [] (map (λ j. (j, NewBallot c.ballot)) (missing c promises)) (λ l. In x l → MessageKnown app x.1)
       (λ t n. absurd n)
-      (λ t k. let r = in_mapped (λ j. (j, NewBallot c.ballot)) x (missing c vows) k in let P : ℕ × BallotMessage E → Type 0 = λ y. MessageKnown app
+      (λ t k. let r = in_mapped (λ j. (j, NewBallot c.ballot)) x (missing c promises) k in let P : ℕ × BallotMessage E → Type 0 = λ y. MessageKnown app
       y.1 in subst P r.2 tt)
       i
-  repeats_known c h (Leads acks) x i = let r = in_gathered (λ j. repeated c j (ack_of acks j)) x (others c) i in repeated_known c h r.0 (ack_of acks r.0) x r.2
+  repeats_known c h (Leader acks) x i = let r = in_gathered (λ j. repeated c j (ack_of acks j)) x (others c) i in repeated_known c h r.0 (ack_of acks r.0) x r.2
 
   pub tick_grows : (c : BallotLog E) → Yields app c (tick c)
   unfolding tick
@@ -358,9 +358,9 @@ module _ {E : Type 0} (app : List E) (e : E) where
   message_more (Learn first es) h = λ x i. in_front x app (e ∷ []) (h x i)
 
   role_more : (r : Role E) → RoleKnown app r → RoleKnown (app ++ e ∷ []) r
-  role_more Follows h = tt
-  role_more (Collects vows) h = λ v i. tail_more v.tail (h v i)
-  role_more (Leads acks) h = tt
+  role_more Follower h = tt
+  role_more (Candidate promises) h = λ v i. tail_more v.tail (h v i)
+  role_more (Leader acks) h = tt
 
   log_more : (c : BallotLog E) → LogKnown app c → LogKnown (app ++ e ∷ []) c
   log_more c h = record { chosen = λ x i. in_front x app (e ∷ []) (h.chosen x i); tail = tail_more c.tail h.tail; role = role_more c.role h.role }
@@ -373,10 +373,10 @@ pub record WorldKnown {E : Type 0} (app : List E) (at : ℕ → BallotLog E) (ms
 abbrev pub Known : {E : Type 0} → World E → Type 0
 Known w = WorldKnown w.appended w.at w.sent
 
--- what a happening leaves: known entries and longer chosen lists
+-- what an event leaves: known entries and longer chosen lists
 pub record Goes {E : Type 0} (w w' : World E) : Type 0 where
   pub known : Known w'
-  pub longer : (s : ℕ) → IsFront (chosen_at w s) (chosen_at w' s)
+  pub longer : (s : ℕ) → IsPrefix (chosen_at w s) (chosen_at w' s)
 
 module _ {E : Type 0} where
   stays : (w : World E) → Known w → Goes w w
@@ -391,20 +391,20 @@ module _ {E : Type 0} where
         (λ (y : Sent E). MessageKnown app y.message) m.2 (l.sends m.0 m.1)) (in_either x sent (sent_by s r.out.sends) i);
   }
 
-  stepped_longer : (at : ℕ → BallotLog E) (s : ℕ) (c : BallotLog E) → IsFront (at s).chosen c.chosen → (j : ℕ) → IsFront (at j).chosen (put at s c j).chosen
-  stepped_longer at s c h = at_each (λ j d. IsFront (at j).chosen d.chosen) at s c (λ j n. front_self (at j).chosen) h
+  stepped_longer : (at : ℕ → BallotLog E) (s : ℕ) (c : BallotLog E) → IsPrefix (at s).chosen c.chosen → (j : ℕ) → IsPrefix (at j).chosen (put at s c j).chosen
+  stepped_longer at s c h = at_each (λ j d. IsPrefix (at j).chosen d.chosen) at s c (λ j n. front_self (at j).chosen) h
 
   steps_goes : (f : ℕ) (w : World E) (s : ℕ) (r : Stepped E) → Known w → Yields w.appended (w.at s) r → Goes w (steps f w s r)
   steps_goes f w s r h y = cond_both (acts f w s) (stepped w s r) w (Goes w)
       (λ t. let l = y (h.logs s) in record { known = stepped_known w.appended w.at w.sent s r h l; longer = stepped_longer w.at s r.log l.grows })
       (λ t. stays w h)
 
-  happens_goes : (eq : E → E → Bool) (f : ℕ) (w : World E) (x : Happening E) → Known w → Goes w (happens eq f w x)
-  unfolding happens
-  happens_goes eq f w (LeadsNow s) h = steps_goes f w s (lead (w.at s)) h (lead_grows w.appended (w.at s))
-  happens_goes eq f w (Ticks s) h = steps_goes f w s (tick (w.at s)) h (tick_grows w.appended (w.at s))
-  happens_goes eq f w (Crashes s) h = record { known = h; longer = λ s. front_self (chosen_at w s) }
-  happens_goes eq f w (Appends s e) h =
+  world_step_goes : (eq : E → E → Bool) (f : ℕ) (w : World E) (x : WorldEvent E) → Known w → Goes w (world_step eq f w x)
+  unfolding world_step
+  world_step_goes eq f w (Lead s) h = steps_goes f w s (lead (w.at s)) h (lead_grows w.appended (w.at s))
+  world_step_goes eq f w (Tick s) h = steps_goes f w s (tick (w.at s)) h (tick_grows w.appended (w.at s))
+  world_step_goes eq f w (Crash s) h = record { known = h; longer = λ s. front_self (chosen_at w s) }
+  world_step_goes eq f w (Append s e) h =
       cond_both (acts f w s && may_append (w.at s)) (record (stepped w s (append (w.at s) e)) { appended = w.appended ++ e ∷ [] }) w (Goes w)
       (λ t.
       let app = w.appended ++ e ∷ [] in
@@ -413,27 +413,27 @@ module _ {E : Type 0} where
       let l = append_grows app (w.at s) e (in_back e w.appended (e ∷ []) (inl refl)) (k.logs s) in
       record { known = stepped_known app w.at w.sent s (append (w.at s) e) k l; longer = stepped_longer w.at s (append (w.at s) e).log l.grows })
       (λ t. stays w h)
-  happens_goes eq f w (Comes k) h = on (slice_get w.sent k) refl
+  world_step_goes eq f w (Deliver k) h = on (slice_get w.sent k) refl
     where
-      on : (o : Option (Sent E)) → slice_get w.sent k ≡ o → Goes w (comes eq f w o)
+      on : (o : Option (Sent E)) → slice_get w.sent k ≡ o → Goes w (deliver_packet eq f w o)
       on None e = stays w h
       on (Some x) e =
           steps_goes f w x.to (take_message eq (w.at x.to) x.from x.message) h
           (take_grows w.appended eq (w.at x.to) x.from x.message (h.sent x (in_got w.sent k x e)))
 
-  pub run_goes : (eq : E → E → Bool) (f : ℕ) (hs : List (Happening E)) (w : World E) → Known w → Goes w (run eq f hs w)
+  pub run_goes : (eq : E → E → Bool) (f : ℕ) (hs : List (WorldEvent E)) (w : World E) → Known w → Goes w (run eq f hs w)
   run_goes eq f [] w h = stays w h
   run_goes eq f (x ∷ hs) w h =
-      let a = happens_goes eq f w x h in
-      let b = run_goes eq f hs (happens eq f w x) a.known in
+      let a = world_step_goes eq f w x h in
+      let b = run_goes eq f hs (world_step eq f w x) a.known in
       record { known = b.known; longer = λ s. front_trans (a.longer s) (b.longer s) }
 
-  pub run_both : (eq : E → E → Bool) (f : ℕ) (hs more : List (Happening E)) (w : World E) → run eq f (hs ++ more) w ≡ run eq f more (run eq f hs w)
+  pub run_both : (eq : E → E → Bool) (f : ℕ) (hs more : List (WorldEvent E)) (w : World E) → run eq f (hs ++ more) w ≡ run eq f more (run eq f hs w)
   run_both eq f [] more w = refl
-  run_both eq f (x ∷ hs) more w = run_both eq f hs more (happens eq f w x)
+  run_both eq f (x ∷ hs) more w = run_both eq f hs more (world_step eq f w x)
 
-opening_role : (E : Type 0) (s : ℕ) → RoleKnown {E = E} [] (if s == 1 then Leads first_acks else Follows)
-opening_role E s = cond_both (s == 1) (Leads first_acks) Follows (RoleKnown {E = E} []) (λ t. tt) (λ t. tt)
+opening_role : (E : Type 0) (s : ℕ) → RoleKnown {E = E} [] (if s == 1 then Leader first_acks else Follower)
+opening_role E s = cond_both (s == 1) (Leader first_acks) Follower (RoleKnown {E = E} []) (λ t. tt) (λ t. tt)
 
 pub opening_known : (E : Type 0) (f : ℕ) → Known {E = E} (opening_world f)
 opening_known E f = record { logs = λ s. record { chosen = λ e i. absurd i; tail = no_tail []; role = opening_role E s }; sent = λ x i. absurd i }

@@ -3,11 +3,11 @@ use Rattle.std.proofs.Common.{◌≡◌, ◌⊎◌, inl, inr, ⊎_elim, ℕ, ◌
 use Rattle.std.proofs.Common.{◌∙◌, subst, arith}
 use Rattle.std.specs.Prelude.{slice_get}
 use Rattle.std.proofs.lemmas.Bool.{cases_eq, eq-eqb, ne_eqb}
-use Rattle.us_kind.specs.Words.{In}
+use Rattle.us_kind.specs.Comparison.{In}
 use Rattle.us_kind.proofs.ListLemmas.{in_either}
-use Rattle.us_ballot_model.specs.declared.log.Vow.{Vow}
+use Rattle.us_ballot_model.specs.declared.log.PromisedLog.{PromisedLog}
 use Rattle.us_ballot_model.specs.declared.log.Role.{Role}
-use Rattle.us_ballot_model.specs.declared.log.Role.TheVariants.{Follows, Collects, Leads}
+use Rattle.us_ballot_model.specs.declared.log.Role.TheVariants.{Follower, Candidate, Leader}
 use Rattle.us_ballot_model.specs.declared.log.BallotLog.{BallotLog}
 use Rattle.us_ballot_model.specs.declared.message.BallotMessage.{BallotMessage}
 use Rattle.us_ballot_model.specs.declared.message.BallotMessage.TheVariants.{NewBallot, Promise, NewState, Accept, Accepted, CatchUp, Learn}
@@ -39,7 +39,7 @@ abbrev pub AckIs : {E : Type 0} → Past E → ℕ → List E → ℕ → ℕ �
 AckIs p a log b n = AckFacts p.starts p.logs a log b n
 
 -- a promise of ballot b tells of a log behind its base
-pub record VowOk {E : Type 0} (f : ℕ) (p : Past E) (b : ℕ) (v : Vow E) : Type 0 where
+pub record PromiseOk {E : Type 0} (f : ℕ) (p : Past E) (b : ℕ) (v : PromisedLog E) : Type 0 where
   pub log : List E
   pub fits : length log ≡ reach v
   pub is : drop v.base log ≡ v.tail
@@ -73,7 +73,7 @@ pub record LearnOk {E : Type 0} (p : Past E) (first : ℕ) (es : List E) : Type 
 
 abbrev pub MessageOk : {E : Type 0} → ℕ → Past E → ℕ → BallotMessage E → Type 0
 MessageOk f p from (NewBallot b) = Unit {0}
-MessageOk f p from (Promise b accepted base tail) = VowOk f p b (record { site = from; accepted = accepted; base = base; tail = tail })
+MessageOk f p from (Promise b accepted base tail) = PromiseOk f p b (record { site = from; accepted = accepted; base = base; tail = tail })
 MessageOk f p from (NewState b base tail) = StateOk p b base tail
 MessageOk f p from (Accept b slot e) = AcceptOk p b slot e
 MessageOk f p from (Accepted b n) = In (Ack b from n) p.told
@@ -86,20 +86,20 @@ pub record SentOk {E : Type 0} (f : ℕ) (p : Past E) (x : Sent E) : Type 0 wher
   pub message : MessageOk f p x.from x.message
 
 -- no two promises are of one site
-abbrev pub AllApart : {E : Type 0} → List (Vow E) → Type 0
+abbrev pub AllApart : {E : Type 0} → List (PromisedLog E) → Type 0
 AllApart [] = Unit {0}
-AllApart (v ∷ vs) = ((u : Vow _) → In u vs → u.site ≡ v.site → ⊥) × AllApart vs
+AllApart (v ∷ vs) = ((u : PromisedLog _) → In u vs → u.site ≡ v.site → ⊥) × AllApart vs
 
 -- a leader holds all of its ballot's log, or a later ballot began otherwise
 abbrev pub IsLeading : {E : Type 0} → Past E → ℕ → List E → Type 0
 IsLeading p b log = ((length (p.logs b) ≤ length log) × Same (length (p.logs b)) log (p.logs b)) ⊎ Blocked p.starts p.logs b (length log)
 
-pub record CollectOk {E : Type 0} (f : ℕ) (p : Past E) (s : ℕ) (c : BallotLog E) (vs : List (Vow E)) : Type 0 where
+pub record CollectOk {E : Type 0} (f : ℕ) (p : Past E) (s : ℕ) (c : BallotLog E) (vs : List (PromisedLog E)) : Type 0 where
   pub owns : owner f c.ballot ≡ s
   pub new : c.accepted < c.ballot
-  pub vows : (v : Vow E) → In v vs → VowOk f p c.ballot v
+  pub promises : (v : PromisedLog E) → In v vs → PromiseOk f p c.ballot v
   pub apart : AllApart vs
-  pub own : (v : Vow E) → In v vs → v.site ≡ s → v.base ≤ length c.chosen
+  pub own : (v : PromisedLog E) → In v vs → v.site ≡ s → v.base ≤ length c.chosen
 
 -- acknowledgements of at least one entry were told by another site
 abbrev pub AcksOk : {E : Type 0} → ℕ → Past E → ℕ → ℕ → List (Option ℕ) → Type 0
@@ -112,9 +112,9 @@ pub record LeadOk {E : Type 0} (f : ℕ) (p : Past E) (s : ℕ) (c : BallotLog E
   pub acks : AcksOk f p s c.ballot ks
 
 abbrev pub RoleOk : {E : Type 0} → ℕ → Past E → ℕ → BallotLog E → Role E → Type 0
-RoleOk f p s c Follows = Unit {0}
-RoleOk f p s c (Collects vows) = CollectOk f p s c vows
-RoleOk f p s c (Leads acks) = LeadOk f p s c acks
+RoleOk f p s c Follower = Unit {0}
+RoleOk f p s c (Candidate promises) = CollectOk f p s c promises
+RoleOk f p s c (Leader acks) = LeadOk f p s c acks
 
 pub record SiteOk {E : Type 0} (f : ℕ) (p : Past E) (s : ℕ) (c : BallotLog E) : Type 0 where
   pub f_is : c.f ≡ f
@@ -173,8 +173,8 @@ module _ {X : Type 0} where
   put_put f s c d = λ i j. at_each (λ k x. x ≡ put f s d k) (put f s c) s d (λ k n. put_other f s c k n ∙ sym (put_other f s d k n)) (sym (put_same f s d)) j i
 
 module _ {E : Type 0} (f : ℕ) (p p' : Past E) (s : ℕ) (o : Owes f p p' s) where
-  pub vow_later : (b : ℕ) (v : Vow E) → VowOk f p b v → VowOk f p' b v
-  vow_later b v h = record {
+  pub promise_later : (b : ℕ) (v : PromisedLog E) → PromiseOk f p b v → PromiseOk f p' b v
+  promise_later b v h = record {
     log = h.log;
     fits = h.fits;
     is = h.is;
@@ -198,7 +198,7 @@ module _ {E : Type 0} (f : ℕ) (p p' : Past E) (s : ℕ) (o : Owes f p p' s) wh
 
   message_later : (from : ℕ) (m : BallotMessage E) → MessageOk f p from m → MessageOk f p' from m
   message_later from (NewBallot b) h = tt
-  message_later from (Promise b accepted base tail) h = vow_later b _ h
+  message_later from (Promise b accepted base tail) h = promise_later b _ h
   message_later from (NewState b base tail) h = state_later b base tail h
   message_later from (Accept b slot e) h = accept_later b slot e h
   message_later from (Accepted b n) h = o.told (Ack b from n) h
@@ -219,9 +219,9 @@ module _ {E : Type 0} (f : ℕ) (p p' : Past E) (s : ℕ) (o : Owes f p p' s) wh
   leading_later j b log apart own (inr x) = inr (blocked_later b (length log) o.grows x)
 
   role_later : (j : ℕ) (c : BallotLog E) (r : Role E) → (j ≡ s → ⊥) → RoleOk f p j c r → RoleOk f p' j c r
-  role_later j c Follows apart h = tt
-  role_later j c (Collects vows) apart h = record { owns = h.owns; new = h.new; vows = λ v i. vow_later c.ballot v (h.vows v i); apart = h.apart; own = h.own }
-  role_later j c (Leads acks) apart h =
+  role_later j c Follower apart h = tt
+  role_later j c (Candidate promises) apart h = record { owns = h.owns; new = h.new; promises = λ v i. promise_later c.ballot v (h.promises v i); apart = h.apart; own = h.own }
+  role_later j c (Leader acks) apart h =
       record {
         owns = h.owns;
         same = h.same;

@@ -4,13 +4,13 @@ use Rattle.std.proofs.Common.{drop, true, Option, Some, None, refl, sym, ap, ◌
 use Rattle.std.specs.Prelude.{◌==◌, nat_lt, slice_get}
 use Rattle.std.proofs.lemmas.List.{take-append-drop}
 use Rattle.std.proofs.lemmas.Bool.{cases_eq, eqb-true, ltb-true, leb-true, and_parts, or_cases}
-use Rattle.us_kind.specs.Words.{In}
-use Rattle.us_ballot_model.specs.declared.log.Role.TheVariants.{Leads}
+use Rattle.us_kind.specs.Comparison.{In}
+use Rattle.us_ballot_model.specs.declared.log.Role.TheVariants.{Leader}
 use Rattle.us_ballot_model.specs.declared.log.BallotLog.{BallotLog}
 use Rattle.us_ballot_model.specs.declared.message.BallotMessage.TheVariants.{Accept, Learn}
 use Rattle.us_ballot_model.specs.Ballots.{sites, owner, to_others, count, held, at_least, ack_of, flat, backers}
 use Rattle.us_ballot_model.specs.Worlds.{put}
-use Rattle.us_agreement.specs.Words.{count as count_of}
+use Rattle.us_agreement.specs.SiteCounts.{count as count_of}
 use Rattle.us_agreement.proofs.Same.{IsDecided, Same, same_refl, same_sym, same_trans, same_less, same_front, get_back}
 use Rattle.us_agreement.proofs.History.{Acknowledgement, Ack, Start, initial, Choice, IsStarted, Blocked, blocked_more, ChoiceOk, not_blocked}
 use Rattle.us_agreement.proofs.Growth.{LogOk, is_own, is_blocked, is_learned, Grows, chosen_later, log_later, ack_later}
@@ -32,7 +32,7 @@ put_grows hs logs cs b l le same = record {
 }
 
 module _ {E : Type 0} (dec : IsDecided E) (f : ℕ) (p : Past E) (hist : HistoryOk f p) (s : ℕ) (here : In s (sites f)) (c : BallotLog E)
-    (g : SiteOk f p s c) (acks : List (Option ℕ)) (leads : c.role ≡ Leads acks) (h : LeadOk f p s c acks) where
+    (g : SiteOk f p s c) (acks : List (Option ℕ)) (leads : c.role ≡ Leader acks) (h : LeadOk f p s c acks) where
   mine : LogIs p c.ballot (whole c)
   mine = subst (λ a. LogIs p a (whole c)) h.same g.log
 

@@ -1,6 +1,6 @@
 -- What the history's growth leaves.
 use Rattle.std.proofs.Common.{◌≡◌, ◌⊎◌, inl, inr, ⊎_elim, ℕ, ◌<◌, ◌≤◌, List, [], ◌∷◌, length, true, refl, arith}
-use Rattle.us_kind.specs.Words.{In}
+use Rattle.us_kind.specs.Comparison.{In}
 use Rattle.us_agreement.proofs.Same.{Same, same_sym, same_trans, same_less}
 use Rattle.us_agreement.proofs.History.{Acknowledgement, Ack, Start, initial, Choice, IsStarted, Blocked, IsChosen, BestOk, own, blocked, learned}
 use Rattle.us_agreement.proofs.History.{later, short, later_blocked, StartOk, StartsOk, ChoiceOk}

@@ -1,8 +1,8 @@
 -- The history of ballots, and why what is chosen stays.
 use Rattle.std.proofs.Common.{◌≡◌, ◌⊎◌, inl, inr, ⊎_elim, ℕ, zero, suc, ◌*◌, ◌<◌, ◌≤◌, List, [], ◌∷◌, length, Bool, true, sym, ◌∙◌, subst, arith}
 use Rattle.std.proofs.lemmas.Bool.{cases_eq, cases_lt, and_parts}
-use Rattle.us_kind.specs.Words.{In}
-use Rattle.us_agreement.specs.Words.{count}
+use Rattle.us_kind.specs.Comparison.{In}
+use Rattle.us_agreement.specs.SiteCounts.{count}
 use Rattle.us_agreement.proofs.Quorums.{shared}
 use Rattle.us_agreement.proofs.Same.{IsDecided, merged, Same, same_sym, same_trans, same_less, same_length, decide_same, merged-front, merged-back}
 
@@ -10,7 +10,7 @@ use Rattle.us_agreement.proofs.Same.{IsDecided, merged, Same, same_sym, same_tra
 pub data Acknowledgement : Type 0 where
   Ack : (ballot from length : ℕ) → Acknowledgement
 
--- a ballot that began: what its leader had chosen, the best vow's log, and who vowed
+-- a ballot that began: what its leader had chosen, the best promise's log, and who promised
 pub record Start (E : Type 0) : Type 0 where
   pub ballot : ℕ
   pub prefix : List E
@@ -44,7 +44,7 @@ module _ {E : Type 0} where
   pub blocked_more : {hs : List (Start E)} {logs : ℕ → List E} {b m : ℕ} (n : ℕ) → m ≤ n → Blocked hs logs b m → Blocked hs logs b n
   blocked_more n le h = record { place = h.place; by = h.by; le = omega arith; within = h.within; here = h.here; above = h.above; differ = h.differ }
 
--- what the best vow's log is to ballot b at m
+-- what the best promise's log is to ballot b at m
 pub data BestOk {E : Type 0} (hs : List (Start E)) (logs : ℕ → List E) (cs : List (Choice E)) (best : List E) (b m : ℕ) : Type 0 where
   own : m ≤ length (logs b) → Same m best (logs b) → BestOk hs logs cs best b m
   blocked : Blocked hs logs b m → BestOk hs logs cs best b m
@@ -54,7 +54,7 @@ pub data BestOk {E : Type 0} (hs : List (Start E)) (logs : ℕ → List E) (cs :
   later_blocked : (h : Start E) → In h hs → b < h.ballot → m ≤ length (initial h) → length (initial h) ≤ length (logs h.ballot)
       → Same (length (initial h)) (initial h) (logs h.ballot) → Blocked hs logs h.ballot m → BestOk hs logs cs best b m
 
--- what a majority has acknowledged up to the length of l, and l is the front of it
+-- what a majority has acknowledged up to the length of l, and l is a prefix of it
 pub record IsChosen {E : Type 0} (hs : List (Start E)) (cs : List (Choice E)) (l : List E) : Type 0 where
   pub choice : Choice E
   pub here : In choice cs
@@ -236,7 +236,7 @@ module _ {E : Type 0} (dec : IsDecided E) where
       (λ i. free b n q acked (record { place = bl.place; by = bl.by; le = bl.le; within = bl.within; here = i; above = bl.above; differ = bl.differ }))
       bl.here
 
-  -- AGREEMENT: of two choices the shorter is the front of the longer
+  -- AGREEMENT: of two choices the shorter is a prefix of the longer
   pub comparable : (sites : List ℕ) (logs : ℕ → List E) (cs : List (Choice E)) (told : List Acknowledgement) (hs : List (Start E))
       → StartsOk sites logs cs told hs → NotBlocked sites logs told hs → (c d : Choice E) → ChoiceOk sites logs told c → ChoiceOk sites logs told d
       → IsStarted hs c.ballot → IsStarted hs d.ballot → length c.log ≤ length d.log → Same (length c.log) c.log d.log

@@ -6,7 +6,7 @@ pub mod Facts
 pub mod Growing
 pub mod Growth
 pub mod History
-pub mod Kept
+pub mod Preservation
 pub mod Logs
 pub mod Moves
 pub mod Owners

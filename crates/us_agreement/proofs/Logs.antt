@@ -1,7 +1,7 @@
 -- What each step makes of a log.
 use Rattle.std.proofs.Common.{◌≡◌, ◌⊎◌, inl, inr, ⊎_elim, ℕ, ◌<◌, ◌≤◌, List, length, length-append, length-drop, drop, sym, ◌∙◌, subst, arith, max}
 use Rattle.std.proofs.lemmas.Bool.{cases_lt}
-use Rattle.us_kind.specs.Words.{In}
+use Rattle.us_kind.specs.Comparison.{In}
 use Rattle.us_agreement.proofs.Same.{IsDecided, merged, Same, same_refl, same_sym, same_trans, same_less, decide_same, merged-front, merged-back}
 use Rattle.us_agreement.proofs.History.{Acknowledgement, Start, initial, Choice, IsStarted, Blocked, blocked_more, IsChosen, BestOk, own, blocked}
 use Rattle.us_agreement.proofs.History.{learned, later, short, later_blocked, StartsOk, starts_in, ChoiceOk, NotBlocked, choice_above}
@@ -65,7 +65,7 @@ module _ {E : Type 0} (dec : IsDecided E) (sites : List ℕ) (hs : List (Start E
       (λ (l : c.ballot ≤ a). let f = above c i a st l in is_own (omega (arith, f.0)) (same_less n le f.1))
       (cases_lt a c.ballot)
 
-  -- the same of what is the front of a choice
+  -- the same of what is a prefix of a choice
   pub compare_chosen : (l k : List E) → IsChosen hs cs l → IsChosen hs cs k → (n : ℕ) → n ≤ length l → n ≤ length k → Same n l k
   compare_chosen l k p q n a b =
       same_trans (same_less n a p.same) (same_trans (compare p.choice q.choice p.here q.here n (let x = p.long in omega arith)
@@ -167,7 +167,7 @@ module _ {E : Type 0} (dec : IsDecided E) (sites : List ℕ) (hs : List (Start E
         (λ x. inr (blocked_more (length (merged p l)) (omega (arith, length-merged p l)) x)) h.long;
   }
 
-  -- START: the best vow's log against each acknowledgement of who vowed
+  -- START: the best promise's log against each acknowledgement of who promised
   pub best_ok : (best v : Claim E) → LogFacts hs logs cs best.accepted best.log
       → (v.accepted < best.accepted) ⊎ ((v.accepted ≡ best.accepted) × (length v.log ≤ length best.log)) → (b n m : ℕ)
       → AckFacts hs logs v.accepted v.log b n → m ≤ n → BestOk hs logs cs best.log b m

@@ -5,9 +5,9 @@ use Rattle.std.specs.Prelude.{slice_get}
 use Rattle.std.proofs.Math.Seq.{drop-append_seam}
 use Rattle.std.proofs.lemmas.List.{drop-drop}
 use Rattle.std.proofs.lemmas.Bool.{cases_lt}
-use Rattle.us_kind.specs.Words.{In}
+use Rattle.us_kind.specs.Comparison.{In}
 use Rattle.us_ballot_model.specs.declared.log.Role.{Role}
-use Rattle.us_ballot_model.specs.declared.log.Role.TheVariants.{Follows, Collects, Leads}
+use Rattle.us_ballot_model.specs.declared.log.Role.TheVariants.{Follower, Candidate, Leader}
 use Rattle.us_ballot_model.specs.declared.log.BallotLog.{BallotLog}
 use Rattle.us_ballot_model.specs.declared.message.BallotMessage.TheVariants.{Accepted}
 use Rattle.us_ballot_model.specs.Ballots.{sites}
@@ -17,7 +17,7 @@ use Rattle.us_agreement.proofs.History.{Ack, initial, IsStarted, blocked_more}
 use Rattle.us_agreement.proofs.Growth.{LogOk}
 use Rattle.us_agreement.proofs.Logs.{length-merged, log_ok_same, compare_chosen, chosen_log, learn_log, learn_ack, learn_leader, merged_log}
 use Rattle.us_agreement.proofs.Facts.{Past, whole, LogIs, Chosen, AckIs, StateOk, AcceptOk, LearnOk, IsLeading, RoleOk, SiteOk, HistoryOk, Owes}
-use Rattle.us_agreement.proofs.Facts.{owes_nothing, starts_kept, choices_kept, vow_later, acks_later}
+use Rattle.us_agreement.proofs.Facts.{owes_nothing, starts_kept, choices_kept, promise_later, acks_later}
 use Rattle.us_agreement.proofs.Steps.{Step, to_one_ok}
 
 -- a list that begins with l
@@ -40,10 +40,10 @@ module _ {E : Type 0} (dec : IsDecided E) (f : ℕ) (p : Past E) (hist : History
   role_with : (chosen tail : List E) (r : Role E) → length c.chosen ≤ length chosen
       → (c.accepted ≡ c.ballot → IsLeading p c.ballot (whole c) → IsLeading p c.ballot (chosen ++ tail)) → RoleOk f p s c r
       → RoleOk f p s (record c { chosen = chosen; tail = tail }) r
-  role_with chosen tail Follows le k h = tt
-  role_with chosen tail (Collects vows) le k h =
-      record { owns = h.owns; new = h.new; vows = h.vows; apart = h.apart; own = λ v i e. let x = h.own v i e in omega arith }
-  role_with chosen tail (Leads acks) le k h = record { owns = h.owns; same = h.same; leading = k h.same h.leading; acks = h.acks }
+  role_with chosen tail Follower le k h = tt
+  role_with chosen tail (Candidate promises) le k h =
+      record { owns = h.owns; new = h.new; promises = h.promises; apart = h.apart; own = λ v i e. let x = h.own v i e in omega arith }
+  role_with chosen tail (Leader acks) le k h = record { owns = h.owns; same = h.same; leading = k h.same h.leading; acks = h.acks }
 
   -- LEARN: chosen entries that hold all that is chosen here
   learnt_log : (chosen tail : List E) → Chosen p chosen → length c.chosen ≤ length chosen → LogIs p c.accepted (chosen ++ tail)
@@ -125,7 +125,7 @@ module _ {E : Type 0} (dec : IsDecided E) (f : ℕ) (p : Past E) (hist : History
           (cases_lt j (length c.chosen))
 
   -- NEWSTATE: the leader's log behind what is chosen here, of a ballot above that of the tail
-  pub restate : (base : ℕ) (tail : List E) → StateOk p c.ballot base tail → c.role ≡ Follows → base ≤ length c.chosen → c.accepted < c.ballot
+  pub restate : (base : ℕ) (tail : List E) → StateOk p c.ballot base tail → c.role ≡ Follower → base ≤ length c.chosen → c.accepted < c.ballot
       → SiteOk f p s (record c { tail = drop (length c.chosen - base) tail; accepted = c.ballot })
   unfolding merged
   restate base tail h follows le lt =
@@ -183,16 +183,16 @@ module _ {E : Type 0} (dec : IsDecided E) (f : ℕ) (p : Past E) (hist : History
 
   told_role : (n : ℕ) (r : Role E) → RoleOk f p s c r → RoleOk f (told_past n) s c r
   unfolding told_past
-  told_role n Follows h = tt
-  told_role n (Collects vows) h =
+  told_role n Follower h = tt
+  told_role n (Candidate promises) h =
       record {
         owns = h.owns;
         new = h.new;
-        vows = λ v i. vow_later f p (told_past n) s (told_owes n) c.ballot v (h.vows v i);
+        promises = λ v i. promise_later f p (told_past n) s (told_owes n) c.ballot v (h.promises v i);
         apart = h.apart;
         own = h.own;
       }
-  told_role n (Leads acks) h =
+  told_role n (Leader acks) h =
       record { owns = h.owns; same = h.same; leading = h.leading; acks = acks_later f p (told_past n) s (told_owes n) s c.ballot acks h.acks }
 
   pub acknowledge : c.accepted ≡ c.ballot → (to : ℕ) → (to ≡ s → ⊥) → (n : ℕ) → n ≡ length (whole c) → Step f p s c ((to, Accepted c.ballot n) ∷ [])
@@ -235,7 +235,7 @@ module _ {E : Type 0} (dec : IsDecided E) (f : ℕ) (p : Past E) (hist : History
   one_more : (e : E) → (c.chosen ++ (c.tail ++ e ∷ [])) ≡ whole c ++ e ∷ []
   one_more e = sym (append_assoc c.chosen c.tail (e ∷ []))
 
-  pub join : (slot : ℕ) (e : E) → AcceptOk p c.ballot slot e → c.role ≡ Follows → c.accepted ≡ c.ballot → slot ≡ length (whole c) + 1
+  pub join : (slot : ℕ) (e : E) → AcceptOk p c.ballot slot e → c.role ≡ Follower → c.accepted ≡ c.ballot → slot ≡ length (whole c) + 1
       → SiteOk f p s (record c { tail = c.tail ++ e ∷ [] })
   join slot e h follows same next = record {
     f_is = g.f_is;

@@ -1,7 +1,7 @@
 -- Two majorities share a member.
 use Rattle.std.proofs.Common.{◌≡◌, inl, inr, ℕ, ◌+◌, ◌*◌, ◌<◌, ◌≤◌, List, [], ◌∷◌, length, Bool, true, false, ◌&&◌, refl, arith}
-use Rattle.us_kind.specs.Words.{In}
-use Rattle.us_agreement.specs.Words.{count}
+use Rattle.us_kind.specs.Comparison.{In}
+use Rattle.us_agreement.specs.SiteCounts.{count}
 
 abbrev IsMajority : (ℕ → Bool) → List ℕ → Type 0
 IsMajority p xs = length xs < 2 * count p xs

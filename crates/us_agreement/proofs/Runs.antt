@@ -5,21 +5,21 @@ use Rattle.std.specs.Prelude.{◌==◌, ◌&&◌, if◌then◌else◌, nat_le, r
 use Rattle.std.specs.Bool.{Decides}
 use Rattle.std.proofs.Math.Nat.{zero-mod}
 use Rattle.std.proofs.lemmas.Bool.{cond_both, eqb-true, leb-true, and_parts}
-use Rattle.us_kind.specs.Words.{In}
+use Rattle.us_kind.specs.Comparison.{In}
 use Rattle.us_kind.proofs.ListLemmas.{in_got}
-use Rattle.us_ballot_model.specs.declared.log.Role.TheVariants.{Follows, Leads}
+use Rattle.us_ballot_model.specs.declared.log.Role.TheVariants.{Follower, Leader}
 use Rattle.us_ballot_model.specs.Ballots.{sites, sites_from, owner, first_acks, opening}
 use Rattle.us_ballot_model.specs.Rules.{Stepped, lead, may_append, append, tick, take_message}
-use Rattle.us_ballot_model.specs.Worlds.{Sent, World, Happening, Leads as LeadsNow, Appends, Ticks, Crashes, Comes, acts, stepped, steps, comes}
-use Rattle.us_ballot_model.specs.Worlds.{happens, run, opening_world}
-use Rattle.us_agreement.specs.Words.{count}
+use Rattle.us_ballot_model.specs.Worlds.{Sent, World, WorldEvent, Lead, Append, Tick, Crash, Deliver, acts, stepped, steps, deliver_packet}
+use Rattle.us_ballot_model.specs.Worlds.{world_step, run, opening_world}
+use Rattle.us_agreement.specs.SiteCounts.{count}
 use Rattle.us_agreement.proofs.Same.{IsDecided, same_refl}
 use Rattle.us_agreement.proofs.History.{Start, Choice, IsStarted, ChoiceOk}
 use Rattle.us_agreement.proofs.Growth.{is_own}
 use Rattle.us_agreement.proofs.Logs.{length-merged}
 use Rattle.us_agreement.proofs.Counting.{site_in}
 use Rattle.us_agreement.proofs.Facts.{Past, RoleOk, SiteOk, HistoryOk, Holds}
-use Rattle.us_agreement.proofs.Kept.{Does, lead_does, append_does, tick_does, take_does}
+use Rattle.us_agreement.proofs.Preservation.{Preserves, lead_preserves, append_preserves, tick_preserves, take_preserves}
 
 abbrev pub WorldOk : {E : Type 0} → ℕ → World E → Type 0
 WorldOk f w = Holds f w.at w.sent
@@ -77,9 +77,9 @@ module _ (E : Type 0) (f : ℕ) where
     moved = λ h i z q. ⊎_elim (λ (e : first_start ≡ h). let x = ap (λ (y : Start E). y.ballot) e in omega arith) (λ n. absurd n) i;
   }
 
-  first_role : (s : ℕ) → RoleOk f first_past s (opening f s) (if s == 1 then Leads first_acks else Follows)
+  first_role : (s : ℕ) → RoleOk f first_past s (opening f s) (if s == 1 then Leader first_acks else Follower)
   unfolding first_past
-  first_role s = cond_both (s == 1) (Leads first_acks) Follows (RoleOk f first_past s (opening f s))
+  first_role s = cond_both (s == 1) (Leader first_acks) Follower (RoleOk f first_past s (opening f s))
       (λ t. record {
         owns = first_owner f ∙ sym (eqb-true s 1 t);
         same = refl;
@@ -136,33 +136,33 @@ module _ {E : Type 0} (eq : E → E → Bool) (decides : (x y : E) → Decides (
         let hi = leb-true s (2 * f + 1) b.1 in
         site_in 1 (2 * f + 1) s lo (omega arith)
 
-    stepped_ok : (w : World E) (s : ℕ) (r : Stepped E) → WorldOk f w → (In s (sites f) → Does f s [] (w.at s) r) → WorldOk f (steps f w s r)
+    stepped_ok : (w : World E) (s : ℕ) (r : Stepped E) → WorldOk f w → (In s (sites f) → Preserves f s [] (w.at s) r) → WorldOk f (steps f w s r)
     stepped_ok w s r h does = cond_both (acts f w s) (stepped w s r) w (WorldOk f) (λ t. does (acting w s t) w.at w.sent refl h (λ x i. absurd i)) (λ t. h)
 
-    happens_ok : (w : World E) (h : Happening E) → WorldOk f w → WorldOk f (happens eq f w h)
-    unfolding happens
-    happens_ok w (LeadsNow s) h = stepped_ok w s (lead (w.at s)) h (λ here. lead_does dec f s here [] (w.at s))
-    happens_ok w (Ticks s) h = stepped_ok w s (tick (w.at s)) h (λ here. tick_does dec f s here [] (w.at s))
-    happens_ok w (Crashes s) h = h
-    happens_ok w (Appends s e) h =
+    world_step_ok : (w : World E) (h : WorldEvent E) → WorldOk f w → WorldOk f (world_step eq f w h)
+    unfolding world_step
+    world_step_ok w (Lead s) h = stepped_ok w s (lead (w.at s)) h (λ here. lead_preserves dec f s here [] (w.at s))
+    world_step_ok w (Tick s) h = stepped_ok w s (tick (w.at s)) h (λ here. tick_preserves dec f s here [] (w.at s))
+    world_step_ok w (Crash s) h = h
+    world_step_ok w (Append s e) h =
         cond_both (acts f w s && may_append (w.at s)) (record (stepped w s (append (w.at s) e)) { appended = w.appended ++ e ∷ [] }) w (WorldOk f)
-        (λ t. append_does dec f s (acting w s (and_parts (acts f w s) (may_append (w.at s)) t).0) [] (w.at s) e w.at w.sent refl h (λ x i. absurd i))
+        (λ t. append_preserves dec f s (acting w s (and_parts (acts f w s) (may_append (w.at s)) t).0) [] (w.at s) e w.at w.sent refl h (λ x i. absurd i))
         (λ t. h)
-    happens_ok w (Comes k) h = on (slice_get w.sent k) refl
+    world_step_ok w (Deliver k) h = on (slice_get w.sent k) refl
       where
-        on : (o : Option (Sent E)) → slice_get w.sent k ≡ o → WorldOk f (comes eq f w o)
+        on : (o : Option (Sent E)) → slice_get w.sent k ≡ o → WorldOk f (deliver_packet eq f w o)
         on None e = h
         on (Some x) e =
             let there = in_got w.sent k x e in
             let ok = h.facts.sent x there in
             cond_both (acts f w x.to) (stepped w x.to (take_message eq (w.at x.to) x.from x.message)) w (WorldOk f)
-            (λ t. take_does dec f x.to (acting w x.to t) (x ∷ []) eq decides (w.at x.to) x.from x.message (λ p given. given x (inl refl)) ok.apart
+            (λ t. take_preserves dec f x.to (acting w x.to t) (x ∷ []) eq decides (w.at x.to) x.from x.message (λ p given. given x (inl refl)) ok.apart
             w.at w.sent refl h (λ y i. ⊎_elim (λ q. subst (λ z. In z w.sent) q there) (λ n. absurd n) i))
             (λ t. h)
 
-    run_ok : (hs : List (Happening E)) (w : World E) → WorldOk f w → WorldOk f (run eq f hs w)
+    run_ok : (hs : List (WorldEvent E)) (w : World E) → WorldOk f w → WorldOk f (run eq f hs w)
     run_ok [] w h = h
-    run_ok (x ∷ hs) w h = run_ok hs (happens eq f w x) (happens_ok w x h)
+    run_ok (x ∷ hs) w h = run_ok hs (world_step eq f w x) (world_step_ok w x h)
 
-    pub every_run_ok : (hs : List (Happening E)) → WorldOk f (run eq f hs (opening_world f))
+    pub every_run_ok : (hs : List (WorldEvent E)) → WorldOk f (run eq f hs (opening_world f))
     every_run_ok hs = run_ok hs (opening_world f) (opening_ok E f)

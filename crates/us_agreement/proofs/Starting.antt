@@ -6,20 +6,20 @@ use Rattle.std.proofs.lemmas.List.{drop-drop}
 use Rattle.std.proofs.Math.Seq.{drop-append_seam}
 use Rattle.std.proofs.lemmas.Bool.{cases_eq, cases_lt, eqb-true, ltb-true, and_parts, or_cases}
 use Rattle.std.proofs.lemmas.Bool.Decides.{nat_tests}
-use Rattle.us_kind.specs.Words.{In}
-use Rattle.us_ballot_model.specs.declared.log.Vow.{Vow}
+use Rattle.us_kind.specs.Comparison.{In}
+use Rattle.us_ballot_model.specs.declared.log.PromisedLog.{PromisedLog}
 use Rattle.us_ballot_model.specs.declared.log.BallotLog.{BallotLog}
 use Rattle.us_ballot_model.specs.declared.message.BallotMessage.TheVariants.{NewState}
-use Rattle.us_ballot_model.specs.Ballots.{sites, owner, to_others, count, vowed, reach, is_better, best}
+use Rattle.us_ballot_model.specs.Ballots.{sites, owner, to_others, count, has_promised, reach, is_better, best}
 use Rattle.us_ballot_model.specs.Rules.{led}
 use Rattle.us_ballot_model.specs.Worlds.{put}
-use Rattle.us_agreement.specs.Words.{count as count_of}
+use Rattle.us_agreement.specs.SiteCounts.{count as count_of}
 use Rattle.us_agreement.proofs.Same.{IsDecided, merged, Same, same_refl}
 use Rattle.us_agreement.proofs.History.{Ack, Start, IsStarted, StartOk}
 use Rattle.us_agreement.proofs.Growth.{is_own, Grows, started_later, chosen_later, best_later}
 use Rattle.us_agreement.proofs.Logs.{Claim, best_ok}
-use Rattle.us_agreement.proofs.Counting.{vows_count, vowed_in, majority_of}
-use Rattle.us_agreement.proofs.Facts.{Past, LogIs, VowOk, IsLeading, CollectOk, SiteOk, HistoryOk, Owes, starts_kept, choices_kept, put_same, put_other}
+use Rattle.us_agreement.proofs.Counting.{promises_count, has_promised_in, majority_of}
+use Rattle.us_agreement.proofs.Facts.{Past, LogIs, PromiseOk, IsLeading, CollectOk, SiteOk, HistoryOk, Owes, starts_kept, choices_kept, put_same, put_other}
 use Rattle.us_agreement.proofs.Steps.{Step, to_others_ok}
 use Rattle.us_agreement.proofs.Growing.{put_grows}
 
@@ -30,10 +30,10 @@ no_ack (suc m) zero n e = cc
 no_ack (suc m) (suc k) n e = no_ack m k n e
 
 -- THE BEST PROMISE: of a greater ballot, or of the same one and not shorter
-abbrev pub Beats : {E : Type 0} → Vow E → Vow E → Type 0
+abbrev pub Beats : {E : Type 0} → PromisedLog E → PromisedLog E → Type 0
 Beats v u = (u.accepted < v.accepted) ⊎ ((u.accepted ≡ v.accepted) × (reach u ≤ reach v))
 
-beats_trans : {E : Type 0} (a b c : Vow E) → Beats a b → Beats b c → Beats a c
+beats_trans : {E : Type 0} (a b c : PromisedLog E) → Beats a b → Beats b c → Beats a c
 beats_trans a b c (inl h) (inl k) = inl (omega arith)
 beats_trans a b c (inl h) (inr k) = inl (let e = k.0 in omega arith)
 beats_trans a b c (inr h) (inl k) = inl (let e = h.0 in omega arith)
@@ -53,7 +53,7 @@ not_both a b rest e q = on (a == b) refl e
     on true k x = x
     on false k x = absurd (grind (arith, nat_tests))
 
-better : {E : Type 0} (u v : Vow E) → Beats (if is_better u v then u else v) v × Beats (if is_better u v then u else v) u
+better : {E : Type 0} (u v : PromisedLog E) → Beats (if is_better u v then u else v) v × Beats (if is_better u v then u else v) u
 better {E} u v = on (is_better u v) refl
   where
     longer : (nat_lt (reach v) (reach u) || ((reach v == reach u) && nat_lt u.site v.site)) ≡ true → reach v ≤ reach u
@@ -78,7 +78,7 @@ better {E} u v = on (is_better u v) refl
             (sym q, (not_less (reach v) (reach u) _ (not_both v.accepted u.accepted _ w.1 q)).0))
             (cases_lt u.accepted v.accepted)
 
-best_both : {E : Type 0} (v : Vow E) (vs : List (Vow E)) → Beats (best v vs) v × ((u : Vow E) → In u vs → Beats (best v vs) u)
+best_both : {E : Type 0} (v : PromisedLog E) (vs : List (PromisedLog E)) → Beats (best v vs) v × ((u : PromisedLog E) → In u vs → Beats (best v vs) u)
 best_both v [] = (inr (refl, omega arith), λ u i. absurd i)
 best_both v (u ∷ us) =
     let w = if is_better u v then u else v in
@@ -86,11 +86,11 @@ best_both v (u ∷ us) =
     let k = better u v in
     (beats_trans (best w us) w v h.0 k.0, λ x i. ⊎_elim (λ e. subst (Beats (best w us)) e (beats_trans (best w us) w u h.0 k.1)) (λ j. h.1 x j) i)
 
-pub best_beats : {E : Type 0} (v : Vow E) (vs : List (Vow E)) → (u : Vow E) → In u (v ∷ vs) → Beats (best v vs) u
+pub best_beats : {E : Type 0} (v : PromisedLog E) (vs : List (PromisedLog E)) → (u : PromisedLog E) → In u (v ∷ vs) → Beats (best v vs) u
 best_beats v vs u (inl e) = subst (Beats (best v vs)) e (best_both v vs).0
 best_beats v vs u (inr i) = (best_both v vs).1 u i
 
-pub best_in : {E : Type 0} (v : Vow E) (vs : List (Vow E)) → In (best v vs) (v ∷ vs)
+pub best_in : {E : Type 0} (v : PromisedLog E) (vs : List (PromisedLog E)) → In (best v vs) (v ∷ vs)
 best_in v [] = inl refl
 best_in v (u ∷ us) = on (is_better u v) (best_in u us) (best_in v us)
   where
@@ -99,14 +99,14 @@ best_in v (u ∷ us) = on (is_better u v) (best_in u us) (best_in v us)
     on false a b = ⊎_elim (λ e. inl e) (λ j. inr (inr j)) b
 
 module _ {E : Type 0} (dec : IsDecided E) (f : ℕ) (p : Past E) (hist : HistoryOk f p) (s : ℕ) (here : In s (sites f)) (c : BallotLog E)
-    (g : SiteOk f p s c) (v : Vow E) (vs : List (Vow E)) (h : CollectOk f p s c (v ∷ vs)) (enough : f < length (v ∷ vs))
+    (g : SiteOk f p s c) (v : PromisedLog E) (vs : List (PromisedLog E)) (h : CollectOk f p s c (v ∷ vs)) (enough : f < length (v ∷ vs))
     (le : (best v vs).base ≤ length c.chosen) where
-  the_best : VowOk f p c.ballot (best v vs)
-  the_best = h.vows (best v vs) (best_in v vs)
+  the_best : PromiseOk f p c.ballot (best v vs)
+  the_best = h.promises (best v vs) (best_in v vs)
 
   -- the ballot's log begins so
   begins : Start E
-  begins = record { ballot = c.ballot; prefix = c.chosen; best = the_best.log; quorum = vowed (v ∷ vs) }
+  begins = record { ballot = c.ballot; prefix = c.chosen; best = the_best.log; quorum = has_promised (v ∷ vs) }
 
   first_log : List E
   first_log = merged c.chosen the_best.log
@@ -173,8 +173,8 @@ module _ {E : Type 0} (dec : IsDecided E) (f : ℕ) (p : Past E) (hist : History
     same_up = λ z a. refl;
   }
 
-  majority : length (sites f) < 2 * count_of (vowed (v ∷ vs)) (sites f)
-  majority = majority_of f _ (let k = vows_count (v ∷ vs) (sites f) (λ u i. (h.vows u i).here) h.apart in omega arith)
+  majority : length (sites f) < 2 * count_of (has_promised (v ∷ vs)) (sites f)
+  majority = majority_of f _ (let k = promises_count (v ∷ vs) (sites f) (λ u i. (h.promises u i).here) h.apart in omega arith)
 
   -- the best log against each acknowledgement of who promised
   begins_ok : StartOk (sites f) logs' p.choices p.told begins p.starts
@@ -183,8 +183,8 @@ module _ {E : Type 0} (dec : IsDecided E) (f : ℕ) (p : Past E) (hist : History
     majority = majority;
     prefix_is = inr g.chosen;
     acks = λ z b n m q lt i le.
-        let r = vowed_in (v ∷ vs) z q in
-        let x = h.vows r.0 r.1 in
+        let r = has_promised_in (v ∷ vs) z q in
+        let x = h.promises r.0 r.1 in
         let k = x.acks b n (subst (λ y. In (Ack b y n) p.told) (sym r.2) i) lt in
         let mine : Claim E = record { accepted = (best v vs).accepted; log = the_best.log } in
         let theirs : Claim E = record { accepted = (r.0).accepted; log = x.log } in
@@ -217,8 +217,8 @@ module _ {E : Type 0} (dec : IsDecided E) (f : ℕ) (p : Past E) (hist : History
       other : (b : ℕ) → (b ≡ c.ballot → ⊥) → logs' b ≡ p.logs b
       other b q = ⊎_elim (λ a. put_other p.logs c.ballot first_log b q) (λ a. a) (own_logs b)
 
-      promised : (z : ℕ) → vowed (v ∷ vs) z ≡ true → c.ballot ≤ p.up z
-      promised z k = let r = vowed_in (v ∷ vs) z k in subst (λ y. c.ballot ≤ p.up y) r.2 (h.vows r.0 r.1).moved
+      promised : (z : ℕ) → has_promised (v ∷ vs) z ≡ true → c.ballot ≤ p.up z
+      promised z k = let r = has_promised_in (v ∷ vs) z k in subst (λ y. c.ballot ≤ p.up y) r.2 (h.promises r.0 r.1).moved
 
   led_log : LogIs begun_past c.ballot first_log
   unfolding begun_past begins first_log

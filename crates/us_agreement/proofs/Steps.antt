@@ -3,7 +3,7 @@ use Rattle.std.proofs.Common.{◌≡◌, inl, inr, ℕ, ◌≤◌, List, [], ◌
 use Rattle.std.specs.Prelude.{◌==◌, not}
 use Rattle.std.proofs.Math.Seq.{drop-append_seam}
 use Rattle.std.proofs.lemmas.Bool.{eq-eqb}
-use Rattle.us_kind.specs.Words.{In}
+use Rattle.us_kind.specs.Comparison.{In}
 use Rattle.us_kind.proofs.ListLemmas.{in_filter, in_front}
 use Rattle.us_ballot_model.specs.declared.log.Role.{Role}
 use Rattle.us_ballot_model.specs.declared.log.BallotLog.{BallotLog}
@@ -11,7 +11,7 @@ use Rattle.us_ballot_model.specs.declared.message.BallotMessage.{BallotMessage}
 use Rattle.us_ballot_model.specs.Ballots.{sites, others, to_others, count}
 use Rattle.us_ballot_model.specs.Worlds.{Sent, put, sent_by}
 use Rattle.us_agreement.proofs.History.{Ack}
-use Rattle.us_agreement.proofs.Facts.{Past, whole, VowOk, MessageOk, SentOk, RoleOk, SiteOk, HistoryOk, Holds, Owes, put_same, put_other, at_each}
+use Rattle.us_agreement.proofs.Facts.{Past, whole, PromiseOk, MessageOk, SentOk, RoleOk, SiteOk, HistoryOk, Holds, Owes, put_same, put_other, at_each}
 use Rattle.us_agreement.proofs.Facts.{put_put, net_step, owes_nothing}
 
 pub in_mapped : {X Y : Type 0} (f : X → Y) (y : Y) (xs : List X) → In y (map f xs) → (x : X) × In x xs × (f x ≡ y)
@@ -122,9 +122,9 @@ module _ {E : Type 0} (f : ℕ) (p : Past E) (hist : HistoryOk f p) (s : ℕ) (h
   }
 
   -- the own promise
-  pub own_vow_ok : (b z : ℕ) → c.ballot ≤ b → z ≡ s → VowOk f (raised_past b) b (record { site = z; accepted = c.accepted; base = count c; tail = c.tail })
+  pub own_promise_ok : (b z : ℕ) → c.ballot ≤ b → z ≡ s → PromiseOk f (raised_past b) b (record { site = z; accepted = c.accepted; base = count c; tail = c.tail })
   unfolding raised_past
-  own_vow_ok b z le e = record {
+  own_promise_ok b z le e = record {
     log = whole c;
     fits = length-append c.chosen c.tail;
     is = drop-append_seam c.chosen c.tail;
@@ -135,11 +135,11 @@ module _ {E : Type 0} (f : ℕ) (p : Past E) (hist : HistoryOk f p) (s : ℕ) (h
     here = subst (λ y. In y (sites f)) (sym e) here;
   }
 
-  pub revow : (b : ℕ) (r : Role E) (ms : List (ℕ × BallotMessage E)) → c.ballot ≤ b → RoleOk f (raised_past b) s (record c { ballot = b; role = r }) r
+  pub repromise : (b : ℕ) (r : Role E) (ms : List (ℕ × BallotMessage E)) → c.ballot ≤ b → RoleOk f (raised_past b) s (record c { ballot = b; role = r }) r
       → ((m : ℕ × BallotMessage E) → In m ms → SentOk f (raised_past b) (record { from = s; to = m.0; message = m.1 }))
       → Step f p s (record c { ballot = b; role = r }) ms
   unfolding raised_past
-  revow b r ms le role sends = record {
+  repromise b r ms le role sends = record {
     past = raised_past b;
     owes = raised_owes b le;
     history = raised_history b le;

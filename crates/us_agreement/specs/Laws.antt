@@ -1,13 +1,13 @@
 -- What holds of every run of the small world of 2f + 1 ballot logs.
 use Rattle.std.specs.Prelude.{◌≡◌, ℕ, ◌+◌, ◌*◌, ◌<◌, ◌≤◌, List, [], ◌∷◌, ◌++◌, length, Bool, true, if◌then◌else◌, ◌⊎◌, Some, slice_get}
-use Rattle.us_kind.specs.Words.{In}
+use Rattle.us_kind.specs.Comparison.{In}
 use Rattle.us_ballot_model.specs.Ballots.{sites, owner, next_ballot, WINDOW}
 use Rattle.us_ballot_model.specs.Rules.{trimmed}
-use Rattle.us_ballot_model.specs.Worlds.{World, Happening, run, opening_world}
-use Rattle.us_agreement.specs.Words.{count}
+use Rattle.us_ballot_model.specs.Worlds.{World, WorldEvent, run, opening_world}
+use Rattle.us_agreement.specs.SiteCounts.{count}
 
--- the world after these happenings
-abbrev pub after : {E : Type 0} → (E → E → Bool) → ℕ → List (Happening E) → World E
+-- the world after these events
+abbrev pub after : {E : Type 0} → (E → E → Bool) → ℕ → List (WorldEvent E) → World E
 after eq f hs = run eq f hs (opening_world f)
 
 abbrev pub chosen_at : {E : Type 0} → World E → ℕ → List E
@@ -17,8 +17,8 @@ chosen_at w s = (w.at s).chosen
 abbrev pub held_at : {E : Type 0} → World E → ℕ → List E
 held_at w s = (w.at s).chosen ++ (w.at s).tail
 
--- the first list is the front of the second
-pub record IsFront {E : Type 0} (xs ys : List E) : Type 0 where
+-- the first list is a prefix of the second
+pub record IsPrefix {E : Type 0} (xs ys : List E) : Type 0 where
   pub rest : List E
   pub is : ys ≡ xs ++ rest
 
@@ -28,27 +28,27 @@ pub record IsHeldByMany {E : Type 0} (f : ℕ) (w : World E) (slot : ℕ) (e : E
   pub many : f < count group (sites f)
   pub holds : (s : ℕ) → group s ≡ true → slice_get (held_at w s) slot ≡ Some e
 
--- AGREEMENT: of two sites' chosen lists one is the front of the other
+-- AGREEMENT: of two sites' chosen lists one is a prefix of the other
 abbrev pub ChosenListsAgree : {E : Type 0} → (E → E → Bool) → Type 0
-ChosenListsAgree {E} eq = (f : ℕ) (hs : List (Happening E)) (s t : ℕ) →
-    IsFront (chosen_at (after eq f hs) s) (chosen_at (after eq f hs) t) ⊎ IsFront (chosen_at (after eq f hs) t) (chosen_at (after eq f hs) s)
+ChosenListsAgree {E} eq = (f : ℕ) (hs : List (WorldEvent E)) (s t : ℕ) →
+    IsPrefix (chosen_at (after eq f hs) s) (chosen_at (after eq f hs) t) ⊎ IsPrefix (chosen_at (after eq f hs) t) (chosen_at (after eq f hs) s)
 
 -- a chosen list only grows, whatever happens next
 abbrev pub ChosenListsGrow : {E : Type 0} → (E → E → Bool) → Type 0
-ChosenListsGrow {E} eq = (f : ℕ) (hs more : List (Happening E)) (s : ℕ) → IsFront (chosen_at (after eq f hs) s) (chosen_at (after eq f (hs ++ more)) s)
+ChosenListsGrow {E} eq = (f : ℕ) (hs more : List (WorldEvent E)) (s : ℕ) → IsPrefix (chosen_at (after eq f hs) s) (chosen_at (after eq f (hs ++ more)) s)
 
 -- each chosen entry was put into the log by a leader
 abbrev pub ChosenEntriesWereAppended : {E : Type 0} → (E → E → Bool) → Type 0
-ChosenEntriesWereAppended {E} eq = (f : ℕ) (hs : List (Happening E)) (s : ℕ) (e : E) → In e (chosen_at (after eq f hs) s) → In e (after eq f hs).appended
+ChosenEntriesWereAppended {E} eq = (f : ℕ) (hs : List (WorldEvent E)) (s : ℕ) (e : E) → In e (chosen_at (after eq f hs) s) → In e (after eq f hs).appended
 
 -- once chosen, an entry is held in its slot by f + 1 sites, whatever happens next
 abbrev pub ChosenEntriesAreHeld : {E : Type 0} → (E → E → Bool) → Type 0
-ChosenEntriesAreHeld {E} eq = (f : ℕ) (hs more : List (Happening E)) (s slot : ℕ) (e : E) →
+ChosenEntriesAreHeld {E} eq = (f : ℕ) (hs more : List (WorldEvent E)) (s slot : ℕ) (e : E) →
     slice_get (chosen_at (after eq f hs) s) slot ≡ Some e → IsHeldByMany f (after eq f (hs ++ more)) slot e
 
 -- a tail has at most 8 entries
 abbrev pub TailsAreShort : {E : Type 0} → (E → E → Bool) → Type 0
-TailsAreShort {E} eq = (f : ℕ) (hs : List (Happening E)) (s : ℕ) → length ((after eq f hs).at s).tail ≤ WINDOW
+TailsAreShort {E} eq = (f : ℕ) (hs : List (WorldEvent E)) (s : ℕ) → length ((after eq f hs).at s).tail ≤ WINDOW
 
 -- the ballot that a site leads next is the least above its own that it owns
 pub record IsLeastOwned (f s b next : ℕ) : Type 0 where

@@ -1,6 +1,6 @@
 //! Laws over every run of the written ballot log.
 //!
-//! A run is any list of happenings in a small world of 2f + 1 sites: a site leads, appends an entry, ticks or crashes, or any
+//! A run is any list of events in a small world of 2f + 1 sites: a site leads, appends an entry, ticks or crashes, or any
 //! message ever sent comes to its site, any number of times, in any order. Entries are of any type whose `==` tells them apart.
 #![tactic(auto)]
 
@@ -9,7 +9,7 @@ ghost use Rattle.us_agreement.specs.Laws.{NextBallotsAreLeast, TailsAreShort, Ta
 
 use us_kind::Slot;
 
-/// Of two sites' chosen lists one is the front of the other.
+/// Of two sites' chosen lists one is a prefix of the other.
 pub fn chosen_lists_agree<E: Slot>()
     ensures { ChosenListsAgree E.eq }
 {}

@@ -4,7 +4,7 @@ use Rattle.std.specs.Prelude.{IfOk, ◌&&◌, ◌==◌, ◌↔◌, if◌then◌e
 use Rattle.std.proofs.lemmas.Bool.{cond_both, ltb-true}
 use Rattle.std.proofs.lemmas.Bool.Decides.{nat_tests}
 use Rattle.us_ballot_model.specs.declared.log.Role.{Role}
-use Rattle.us_ballot_model.specs.declared.log.Role.TheVariants.{Follows, Collects, Leads}
+use Rattle.us_ballot_model.specs.declared.log.Role.TheVariants.{Follower, Candidate, Leader}
 use Rattle.us_ballot_model.specs.declared.log.BallotLog.{BallotLog}
 use Rattle.us_ballot_model.specs.declared.message.BallotMessage.{BallotMessage}
 use Rattle.us_ballot_model.specs.declared.message.BallotMessage.TheVariants.{NewBallot, Promise, NewState, Accept, Accepted, CatchUp, Learn}
@@ -31,9 +31,9 @@ follow_old : {E : Type 0} (c : BallotLog E) (from b : ℕ) → b < c.ballot → 
 follow_old c from b h = rw (not_le b c.ballot h) refl
 
 promise_old : {E : Type 0} (c : BallotLog E) (from b : ℕ) → b < c.ballot → (r : Role E) → may_promise c from b r ≡ false
-promise_old c from b h Follows = refl
-promise_old c from b h (Collects vows) = rw (not_eq b c.ballot h) refl
-promise_old c from b h (Leads acks) = refl
+promise_old c from b h Follower = refl
+promise_old c from b h (Candidate promises) = rw (not_eq b c.ballot h) refl
+promise_old c from b h (Leader acks) = refl
 
 accept_old : {E : Type 0} (c : BallotLog E) (from b : ℕ) → b < c.ballot → may_accept c from b ≡ false
 accept_old c from b h = rw (not_eq b c.ballot h) (ap (λ x. follows c.role && x) (false_right (owner c.f b == from)) ∙ false_right (follows c.role))

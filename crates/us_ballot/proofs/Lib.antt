@@ -1,6 +1,6 @@
 pub mod Sending
 pub mod Onto
 pub mod Ready
-pub mod Vows
+pub mod Promises
 pub mod Repeating
 pub mod Dropped

@@ -49,9 +49,9 @@ fn ready_as<E: Slot>(log: &BallotLog<E>) -> usize
     ensures { result ≡ ready_as log.now log.now.role }
 {
     match &log.role {
-        Role::Follows => 0,
-        Role::Collects { vows: _ } => 0,
-        Role::Leads { acks } => ready(log, acks),
+        Role::Follower => 0,
+        Role::Candidate { promises: _ } => 0,
+        Role::Leader { acks } => ready(log, acks),
     }
 }
 

@@ -15,13 +15,13 @@ use crate::repeat::tick;
 use crate::sends::nothing;
 use std::alloc::Global;
 use std::marker::Model;
-use us_ballot_model::{Appended, BallotLog, BallotMessage, BallotOut, Role, Vow};
+use us_ballot_model::{Appended, BallotLog, BallotMessage, BallotOut, PromisedLog, Role};
 use us_base::Shape;
 use us_kind::{Items, Memory, Slot};
 
 /// One site's part of a log that 2f + 1 sites agree on by ballots: what f + 1 sites hold is chosen, and stays.
 ///
-/// Every call is a rule of `docs/PROTOCOL.md`, section "The ballot log". After want of memory the value is only dropped.
+/// Every call is a rule of `docs/PROTOCOL.md`, section "The ballot log". After a failed allocation the value is only dropped.
 #[derive(Drop)]
 pub struct Ballots<E: Slot> {
     alloc: Global,
@@ -64,13 +64,13 @@ fn take_message<E: Slot>(
             base,
             tail,
         } => {
-            let vow = Vow {
+            let promised = PromisedLog {
                 site: from,
                 accepted,
                 base,
                 tail,
             };
-            promise(alloc, log, ballot, vow, out)
+            promise(alloc, log, ballot, promised, out)
         }
         BallotMessage::NewState { ballot, base, tail } => new_state(
             alloc,
@@ -109,9 +109,9 @@ impl<E: Slot> Ballots<E> {
         ensures { IfOk result (λ ballots. ballots ≡ opening shape.f site) }
     {
         let role = if site == 1 {
-            Role::Leads { acks: [Some(0); 9] }
+            Role::Leader { acks: [Some(0); 9] }
         } else {
-            Role::Follows
+            Role::Follower
         };
         Ok(Ballots {
             alloc,

@@ -1,25 +1,25 @@
 //! A site wants to lead, and others promise.
 ghost use Rattle.std.specs.Prelude.{◌≡◌, ◌≤◌, ◌<◌, ◌++◌, ◌∷◌, [], OnOk, IfOk, length};
-ghost use Rattle.us_ballot_model.specs.Ballots.{IsLog, IsRole, WINDOW, LAST, own_vow};
-ghost use Rattle.us_ballot_model.specs.Rules.{lead_in, lead, may_follow, following, new_ballot, may_record, may_promise, with_vow, promise};
+ghost use Rattle.us_ballot_model.specs.Ballots.{IsLog, IsRole, WINDOW, LAST, own_promise};
+ghost use Rattle.us_ballot_model.specs.Rules.{lead_in, lead, may_follow, following, new_ballot, may_record, may_promise, with_promise, promise};
 ghost use Rattle.us_ballot.specs.Outs.{onto};
 
 use crate::copies::copies;
 use crate::numbers::{next_ballot, owner};
 use crate::sends::{send, send_to_others};
-use crate::start::{start, vowed};
+use crate::start::{has_promised, start};
 use std::alloc::Global;
-use us_ballot_model::{BallotLog, BallotMessage, BallotOut, Role, Vow};
+use us_ballot_model::{BallotLog, BallotMessage, BallotOut, PromisedLog, Role};
 use us_kind::{Items, Memory, Slot};
 
 /// The greatest ballot.
 const LAST_BALLOT: u64 = 4_611_686_018_427_387_904;
 
 /// A site's own promise.
-fn own_vow<E: Slot>(alloc: Global, log: &BallotLog<E>) -> Result<Vow<E>, Memory>
-    ensures { IfOk result (λ vow. vow ≡ own_vow log.now) }
+fn own_promise<E: Slot>(alloc: Global, log: &BallotLog<E>) -> Result<PromisedLog<E>, Memory>
+    ensures { IfOk result (λ promised. promised ≡ own_promise log.now) }
 {
-    Ok(Vow {
+    Ok(PromisedLog {
         site: log.site,
         accepted: log.accepted,
         base: log.chosen.len() as u64,
@@ -42,10 +42,10 @@ fn lead_in<E: Slot>(
     if ballot > LAST_BALLOT {
         return Ok(());
     }
-    let mut vows = Items::new(alloc);
-    vows.push(own_vow(alloc, log)?)?;
+    let mut promises = Items::new(alloc);
+    promises.push(own_promise(alloc, log)?)?;
     log.ballot = ballot;
-    log.role = Role::Collects { vows };
+    log.role = Role::Candidate { promises };
     send_to_others(alloc, log, &BallotMessage::NewBallot { ballot }, out)?;
     start(alloc, log, out)
 }
@@ -94,7 +94,7 @@ pub fn new_ballot<E: Slot>(
     }
     let tail = copies(alloc, log.tail.as_slice())?;
     log.ballot = ballot;
-    log.role = Role::Follows;
+    log.role = Role::Follower;
     let promise = BallotMessage::Promise {
         ballot,
         accepted: log.accepted,
@@ -105,10 +105,15 @@ pub fn new_ballot<E: Slot>(
 }
 
 /// Whether a collector with these promises takes one of the ballot from the site.
-fn may_record<E: Slot>(log: &BallotLog<E>, vows: &[Vow<E>], from: u8, ballot: u64) -> bool
-    ensures { result ≡ may_record log.now vows.now from ballot }
+fn may_record<E: Slot>(
+    log: &BallotLog<E>,
+    promises: &[PromisedLog<E>],
+    from: u8,
+    ballot: u64,
+) -> bool
+    ensures { result ≡ may_record log.now promises.now from ballot }
 {
-    ballot == log.ballot && vows.len() <= usize::from(log.f) && !vowed(vows, from)
+    ballot == log.ballot && promises.len() <= usize::from(log.f) && !has_promised(promises, from)
 }
 
 /// Whether this site collects and takes a promise of the ballot from the site.
@@ -116,24 +121,24 @@ fn may_promise<E: Slot>(log: &BallotLog<E>, from: u8, ballot: u64) -> bool
     ensures { result ≡ may_promise log.now from ballot log.now.role }
 {
     match &log.role {
-        Role::Follows => false,
-        Role::Collects { vows } => may_record(log, vows.as_slice(), from, ballot),
-        Role::Leads { acks: _ } => false,
+        Role::Follower => false,
+        Role::Candidate { promises } => may_record(log, promises.as_slice(), from, ballot),
+        Role::Leader { acks: _ } => false,
     }
 }
 
 /// A collector keeps the promise.
-#[tactic(auto, using(crate::proofs::Vows::vows_push))]
-fn add_vow<E: Slot>(role: &mut Role<E>, vow: Vow<E>) -> Result<(), Memory>
+#[tactic(auto, using(crate::proofs::Promises::promises_push))]
+fn add_promise<E: Slot>(role: &mut Role<E>, promised: PromisedLog<E>) -> Result<(), Memory>
     requires role { IsRole role.old }
-    requires window { length vow.tail ≤ WINDOW }
+    requires window { length promised.tail ≤ WINDOW }
     ensures kept { IsRole role.new }
-    ensures role { OnOk result (role.new ≡ with_vow role.old vow) }
+    ensures role { OnOk result (role.new ≡ with_promise role.old promised) }
 {
     match role {
-        Role::Follows => Ok(()),
-        Role::Collects { vows } => vows.push(vow),
-        Role::Leads { acks: _ } => Ok(()),
+        Role::Follower => Ok(()),
+        Role::Candidate { promises } => promises.push(promised),
+        Role::Leader { acks: _ } => Ok(()),
     }
 }
 
@@ -143,18 +148,18 @@ pub fn promise<E: Slot>(
     alloc: Global,
     log: &mut BallotLog<E>,
     ballot: u64,
-    vow: Vow<E>,
+    promised: PromisedLog<E>,
     out: &mut BallotOut<E>,
 ) -> Result<(), Memory>
     requires log { IsLog log.old }
-    requires window { length vow.tail ≤ WINDOW }
+    requires window { length promised.tail ≤ WINDOW }
     ensures kept { IsLog log.new }
-    ensures log { OnOk result (log.new ≡ (promise log.old ballot vow).log) }
-    ensures out { OnOk result (out.new ≡ onto out.old (promise log.old ballot vow)) }
+    ensures log { OnOk result (log.new ≡ (promise log.old ballot promised).log) }
+    ensures out { OnOk result (out.new ≡ onto out.old (promise log.old ballot promised)) }
 {
-    if !may_promise(log, vow.site, ballot) {
+    if !may_promise(log, promised.site, ballot) {
         return Ok(());
     }
-    add_vow(&mut log.role, vow)?;
+    add_promise(&mut log.role, promised)?;
     start(alloc, log, out)
 }

@@ -86,7 +86,7 @@ pub fn new_state<E: Slot>(
         return Ok(());
     }
     log.ballot = ballot;
-    log.role = Role::Follows;
+    log.role = Role::Follower;
     state_in(alloc, log, from, ballot, base, tail, out)
 }
 
@@ -95,9 +95,9 @@ fn follows<E: Slot>(role: &Role<E>) -> bool
     ensures { result ≡ follows role.now }
 {
     match role {
-        Role::Follows => true,
-        Role::Collects { vows: _ } => false,
-        Role::Leads { acks: _ } => false,
+        Role::Follower => true,
+        Role::Candidate { promises: _ } => false,
+        Role::Leader { acks: _ } => false,
     }
 }
 

@@ -21,9 +21,9 @@ pub fn leads<E: Slot>(role: &Role<E>) -> bool
     ensures { result ≡ leads role.now }
 {
     match role {
-        Role::Follows => false,
-        Role::Collects { vows: _ } => false,
-        Role::Leads { acks: _ } => true,
+        Role::Follower => false,
+        Role::Candidate { promises: _ } => false,
+        Role::Leader { acks: _ } => true,
     }
 }
 
@@ -36,9 +36,9 @@ fn add_ack<E: Slot>(role: &mut Role<E>, from: u8, length: u64)
     ensures role { role.new ≡ with_ack role.old from length }
 {
     match role {
-        Role::Follows => {}
-        Role::Collects { vows: _ } => {}
-        Role::Leads { acks } => raise(acks, from, length),
+        Role::Follower => {}
+        Role::Candidate { promises: _ } => {}
+        Role::Leader { acks } => raise(acks, from, length),
     }
 }
 

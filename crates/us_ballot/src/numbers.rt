@@ -14,7 +14,7 @@ pub fn held<E: Slot>(log: &BallotLog<E>) -> u128
     log.chosen.as_slice().len() as u128 + log.tail.as_slice().len() as u128
 }
 
-/// The number as one of a message. One that doesn't fit is answered as want of memory.
+/// The number as one of a message. One that doesn't fit is answered as out of memory.
 pub fn number(n: u128) -> Result<u64, Memory>
     ensures { IfOk result (λ m. m ≡ n) }
 {

@@ -9,9 +9,9 @@ ghost use Rattle.us_ballot_model.specs.declared.message.BallotMessage.TheVariant
 use crate::copies::copies;
 use crate::numbers::{ack_of, number};
 use crate::sends::{send, send_to_others};
-use crate::start::vowed;
+use crate::start::has_promised;
 use std::alloc::Global;
-use us_ballot_model::{BallotLog, BallotMessage, BallotOut, Role, Vow};
+use us_ballot_model::{BallotLog, BallotMessage, BallotOut, PromisedLog, Role};
 use us_kind::{Memory, Slot};
 
 /// Tells the entries again, from this slot on.
@@ -106,14 +106,14 @@ fn repeat_all<E: Slot>(
 /// Asks each other site for its promise that hasn't given it.
 fn ask_missing<E: Slot>(
     log: &BallotLog<E>,
-    vows: &[Vow<E>],
+    promises: &[PromisedLog<E>],
     out: &mut BallotOut<E>,
 ) -> Result<(), Memory>
     requires { IsLog log.now }
-    ensures { OnOk result (out.new ≡ more out.old (map (λ j. (j, NewBallot log.now.ballot)) (missing log.now vows.now))) }
+    ensures { OnOk result (out.new ≡ more out.old (map (λ j. (j, NewBallot log.now.ballot)) (missing log.now promises.now))) }
 {
     for j in 1..2 * log.f + 2 {
-        if j != log.site && !vowed(vows, j) {
+        if j != log.site && !has_promised(promises, j) {
             send(j, BallotMessage::NewBallot { ballot: log.ballot }, out)?;
         }
     }
@@ -126,15 +126,15 @@ fn repeats<E: Slot>(alloc: Global, log: &BallotLog<E>, out: &mut BallotOut<E>) -
     ensures { OnOk result (out.new ≡ more out.old (repeats log.now log.now.role)) }
 {
     match &log.role {
-        Role::Follows => Ok(()),
-        Role::Collects { vows } => {
-            if usize::from(log.f) < vows.len() {
+        Role::Follower => Ok(()),
+        Role::Candidate { promises } => {
+            if usize::from(log.f) < promises.len() {
                 Ok(())
             } else {
-                ask_missing(log, vows.as_slice(), out)
+                ask_missing(log, promises.as_slice(), out)
             }
         }
-        Role::Leads { acks } => repeat_all(alloc, log, acks, out),
+        Role::Leader { acks } => repeat_all(alloc, log, acks, out),
     }
 }
 

@@ -1,7 +1,7 @@
 //! A collector with f + 1 promises leads.
 ghost use Rattle.std.specs.Prelude.{◌≡◌, ◌≤◌, ◌<◌, ◌++◌, ◌∷◌, [], OnOk, IfOk, Some, length, drop};
 ghost use Rattle.std.specs.Option.{option_copied};
-ghost use Rattle.us_ballot_model.specs.Ballots.{IsLog, WINDOW, count, reach, is_better, best, vowed};
+ghost use Rattle.us_ballot_model.specs.Ballots.{IsLog, WINDOW, count, reach, is_better, best, has_promised};
 ghost use Rattle.us_ballot_model.specs.Rules.{begin, start_by, best_of, due, start};
 ghost use Rattle.us_ballot.specs.Outs.{onto};
 
@@ -9,18 +9,18 @@ use crate::advance::advance;
 use crate::copies::{copies, copies_from};
 use crate::sends::{send, send_to_others};
 use std::alloc::Global;
-use us_ballot_model::{BallotLog, BallotMessage, BallotOut, Role, Vow};
+use us_ballot_model::{BallotLog, BallotMessage, BallotOut, PromisedLog, Role};
 use us_kind::{Items, Memory, Slot};
 
 /// Up to where the site of the promise held entries.
-fn reach<E: Slot>(vow: &Vow<E>) -> u128
-    ensures { result ≡ reach vow.now }
+fn reach<E: Slot>(promised: &PromisedLog<E>) -> u128
+    ensures { result ≡ reach promised.now }
 {
-    u128::from(vow.base) + vow.tail.len() as u128
+    u128::from(promised.base) + promised.tail.len() as u128
 }
 
 /// Whether the first promise is better: by the ballot of the tail, then by length, then by the lesser site.
-fn is_better<E: Slot>(first: &Vow<E>, second: &Vow<E>) -> bool
+fn is_better<E: Slot>(first: &PromisedLog<E>, second: &PromisedLog<E>) -> bool
     ensures { result ≡ is_better first.now second.now }
 {
     second.accepted < first.accepted
@@ -30,23 +30,23 @@ fn is_better<E: Slot>(first: &Vow<E>, second: &Vow<E>) -> bool
 }
 
 /// The best of a promise and more.
-fn best<'a, E: Slot>(first: &'a Vow<E>, more: &'a [Vow<E>]) -> &'a Vow<E>
+fn best<'a, E: Slot>(first: &'a PromisedLog<E>, more: &'a [PromisedLog<E>]) -> &'a PromisedLog<E>
     ensures { result.now ≡ best first.now more.now }
 {
     let mut best = first;
-    for vow in more {
-        if is_better(vow, best) {
-            best = vow;
+    for promised in more {
+        if is_better(promised, best) {
+            best = promised;
         }
     }
     best
 }
 
 /// Whether one of the promises is the site's.
-pub fn vowed<E: Slot>(vows: &[Vow<E>], site: u8) -> bool
-    ensures { result ≡ vowed vows.now site }
+pub fn has_promised<E: Slot>(promises: &[PromisedLog<E>], site: u8) -> bool
+    ensures { result ≡ has_promised promises.now site }
 {
-    vows.iter().any(|vow| vow.site == site)
+    promises.iter().any(|promised| promised.site == site)
 }
 
 /// Tells the others the ballot's state, and chooses what f + 1 sites hold.
@@ -70,41 +70,44 @@ fn begin<E: Slot>(
 }
 
 /// A copy of the promise.
-fn copy_vow<E: Slot>(alloc: Global, vow: &Vow<E>) -> Result<Vow<E>, Memory>
-    ensures { IfOk result (λ copy. copy ≡ vow.now) }
+fn copy_promise<E: Slot>(alloc: Global, promised: &PromisedLog<E>) -> Result<PromisedLog<E>, Memory>
+    ensures { IfOk result (λ copy. copy ≡ promised.now) }
 {
-    Ok(Vow {
-        site: vow.site,
-        accepted: vow.accepted,
-        base: vow.base,
-        tail: copies(alloc, vow.tail.as_slice())?,
+    Ok(PromisedLog {
+        site: promised.site,
+        accepted: promised.accepted,
+        base: promised.base,
+        tail: copies(alloc, promised.tail.as_slice())?,
     })
 }
 
 /// A copy of the best of these promises.
-fn best_of<E: Slot>(alloc: Global, vows: &[Vow<E>]) -> Result<Option<Vow<E>>, Memory>
-    ensures { IfOk result (λ vow. vow ≡ best_of vows.now) }
+fn best_of<E: Slot>(
+    alloc: Global,
+    promises: &[PromisedLog<E>],
+) -> Result<Option<PromisedLog<E>>, Memory>
+    ensures { IfOk result (λ promised. promised ≡ best_of promises.now) }
 {
-    match vows {
+    match promises {
         [] => Ok(None),
-        [first, more @ ..] => Ok(Some(copy_vow(alloc, best(first, more))?)),
+        [first, more @ ..] => Ok(Some(copy_promise(alloc, best(first, more))?)),
     }
 }
 
 /// The best promise, where this site collects and has f + 1.
-fn due<E: Slot>(alloc: Global, log: &BallotLog<E>) -> Result<Option<Vow<E>>, Memory>
-    ensures { IfOk result (λ vow. vow ≡ due log.now log.now.role) }
+fn due<E: Slot>(alloc: Global, log: &BallotLog<E>) -> Result<Option<PromisedLog<E>>, Memory>
+    ensures { IfOk result (λ promised. promised ≡ due log.now log.now.role) }
 {
     match &log.role {
-        Role::Follows => Ok(None),
-        Role::Collects { vows } => {
-            if usize::from(log.f) < vows.len() {
-                best_of(alloc, vows.as_slice())
+        Role::Follower => Ok(None),
+        Role::Candidate { promises } => {
+            if usize::from(log.f) < promises.len() {
+                best_of(alloc, promises.as_slice())
             } else {
                 Ok(None)
             }
         }
-        Role::Leads { acks: _ } => Ok(None),
+        Role::Leader { acks: _ } => Ok(None),
     }
 }
 
@@ -113,28 +116,32 @@ fn due<E: Slot>(alloc: Global, log: &BallotLog<E>) -> Result<Option<Vow<E>>, Mem
 fn start_by<E: Slot>(
     alloc: Global,
     log: &mut BallotLog<E>,
-    vow: Vow<E>,
+    promised: PromisedLog<E>,
     out: &mut BallotOut<E>,
 ) -> Result<(), Memory>
     requires log { IsLog log.old }
-    requires window { length vow.tail ≤ WINDOW }
+    requires window { length promised.tail ≤ WINDOW }
     ensures kept { IsLog log.new }
-    ensures log { OnOk result (log.new ≡ (start_by log.old vow).log) }
-    ensures out { OnOk result (out.new ≡ onto out.old (start_by log.old vow)) }
+    ensures log { OnOk result (log.new ≡ (start_by log.old promised).log) }
+    ensures out { OnOk result (out.new ≡ onto out.old (start_by log.old promised)) }
 {
     let chosen = log.chosen.len();
-    if (chosen as u64) < vow.base {
+    if (chosen as u64) < promised.base {
         return send(
-            vow.site,
+            promised.site,
             BallotMessage::CatchUp {
                 length: chosen as u64,
             },
             out,
         );
     }
-    log.tail = copies_from(alloc, vow.tail.as_slice(), chosen - vow.base as usize)?;
+    log.tail = copies_from(
+        alloc,
+        promised.tail.as_slice(),
+        chosen - promised.base as usize,
+    )?;
     log.accepted = log.ballot;
-    log.role = Role::Leads { acks: [None; 9] };
+    log.role = Role::Leader { acks: [None; 9] };
     begin(alloc, log, out)
 }
 
@@ -152,6 +159,6 @@ pub fn start<E: Slot>(
 {
     match due(alloc, log)? {
         None => Ok(()),
-        Some(vow) => start_by(alloc, log, vow, out),
+        Some(promised) => start_by(alloc, log, promised, out),
     }
 }

@@ -2,9 +2,9 @@
 use Rattle.std.specs.Prelude.{ℕ, zero, suc, ◌+◌, ◌-◌, ◌*◌, ◌%◌, ◌≤◌, List, [], ◌∷◌, length, map, filter}
 use Rattle.std.specs.Prelude.{Bool, true, false, not, ◌&&◌, ◌||◌, ◌==◌, if◌then◌else◌, nat_lt, nat_le, Option, Some, None, replicate, slice_get}
 use Rattle.std.specs.List.{list_any}
-use Rattle.us_ballot_model.specs.declared.log.Vow.{Vow}
+use Rattle.us_ballot_model.specs.declared.log.PromisedLog.{PromisedLog}
 use Rattle.us_ballot_model.specs.declared.log.Role.{Role}
-use Rattle.us_ballot_model.specs.declared.log.Role.TheVariants.{Follows, Collects, Leads}
+use Rattle.us_ballot_model.specs.declared.log.Role.TheVariants.{Follower, Candidate, Leader}
 use Rattle.us_ballot_model.specs.declared.log.BallotLog.{BallotLog}
 use Rattle.us_ballot_model.specs.declared.message.BallotMessage.{BallotMessage}
 use Rattle.us_ballot_model.specs.declared.message.BallotMessage.TheVariants.{NewBallot, Promise, NewState, Accept, Accepted, CatchUp, Learn}
@@ -45,23 +45,23 @@ abbrev pub WINDOW : ℕ
 WINDOW = 8
 
 -- PROMISES: the own one
-abbrev pub own_vow : {E : Type 0} → BallotLog E → Vow E
-own_vow c = record { site = c.site; accepted = c.accepted; base = count c; tail = c.tail }
+abbrev pub own_promise : {E : Type 0} → BallotLog E → PromisedLog E
+own_promise c = record { site = c.site; accepted = c.accepted; base = count c; tail = c.tail }
 
-abbrev pub vowed : {E : Type 0} → List (Vow E) → ℕ → Bool
-vowed vows j = list_any (λ v. v.site == j) vows
+abbrev pub has_promised : {E : Type 0} → List (PromisedLog E) → ℕ → Bool
+has_promised promises j = list_any (λ v. v.site == j) promises
 
 -- up to where the site of a promise held entries
-abbrev pub reach : {E : Type 0} → Vow E → ℕ
+abbrev pub reach : {E : Type 0} → PromisedLog E → ℕ
 reach v = v.base + length v.tail
 
 -- by the ballot of the tail, then by length, then by the lesser site
-abbrev pub is_better : {E : Type 0} → Vow E → Vow E → Bool
+abbrev pub is_better : {E : Type 0} → PromisedLog E → PromisedLog E → Bool
 is_better u v =
     nat_lt v.accepted u.accepted || ((v.accepted == u.accepted) && (nat_lt (reach v) (reach u) || ((reach v == reach u) && nat_lt u.site v.site)))
 
 -- the best of a promise and more
-abbrev pub best : {E : Type 0} → Vow E → List (Vow E) → Vow E
+abbrev pub best : {E : Type 0} → PromisedLog E → List (PromisedLog E) → PromisedLog E
 best v [] = v
 best v (u ∷ us) = best (if is_better u v then u else v) us
 
@@ -95,14 +95,14 @@ most p zero = 0
 most p (suc k) = if p (suc k) then suc k else most p k
 
 abbrev pub follows : {E : Type 0} → Role E → Bool
-follows Follows = true
-follows (Collects vows) = false
-follows (Leads acks) = false
+follows Follower = true
+follows (Candidate promises) = false
+follows (Leader acks) = false
 
 abbrev pub leads : {E : Type 0} → Role E → Bool
-leads Follows = false
-leads (Collects vows) = false
-leads (Leads acks) = true
+leads Follower = false
+leads (Candidate promises) = false
+leads (Leader acks) = true
 
 -- MESSAGES: the ballot that one speaks of, if any
 abbrev pub ballot_in : {E : Type 0} → BallotMessage E → Option ℕ
@@ -126,7 +126,7 @@ to_others c m = map (λ j. (j, m)) (others c)
 -- a site's log before anything happened: site 1 leads ballot 1, and each site has acknowledged nothing of it
 abbrev pub opening : {E : Type 0} → ℕ → ℕ → BallotLog E
 opening f s =
-    record { f = f; site = s; ballot = 1; accepted = 1; chosen = []; tail = []; role = if s == 1 then Leads first_acks else Follows }
+    record { f = f; site = s; ballot = 1; accepted = 1; chosen = []; tail = []; role = if s == 1 then Leader first_acks else Follower }
 
 -- what a message may hold: ballots up to the last, tails and pages of at most 8 entries
 abbrev pub IsMessage : {E : Type 0} → BallotMessage E → Type 0
@@ -139,14 +139,14 @@ IsMessage (CatchUp n) = Unit {0}
 IsMessage (Learn first es) = length es ≤ WINDOW
 
 -- promises with tails of at most 8 entries
-abbrev pub AreVows : {E : Type 0} → List (Vow E) → Type 0
-AreVows [] = Unit {0}
-AreVows (v ∷ vs) = (length v.tail ≤ WINDOW) × AreVows vs
+abbrev pub ArePromises : {E : Type 0} → List (PromisedLog E) → Type 0
+ArePromises [] = Unit {0}
+ArePromises (v ∷ vs) = (length v.tail ≤ WINDOW) × ArePromises vs
 
 abbrev pub IsRole : {E : Type 0} → Role E → Type 0
-IsRole Follows = Unit {0}
-IsRole (Collects vows) = AreVows vows
-IsRole (Leads acks) = Unit {0}
+IsRole Follower = Unit {0}
+IsRole (Candidate promises) = ArePromises promises
+IsRole (Leader acks) = Unit {0}
 
 -- a log that the calls keep: one of 2f + 1 sites of which f may be lost, with a ballot up to the last and tails of at most 8
 pub record IsLog {E : Type 0} (c : BallotLog E) : Type 0 where

@@ -2,17 +2,17 @@
 use Rattle.std.specs.Prelude.{ℕ, ◌+◌, ◌-◌, List, [], ◌∷◌, ◌++◌, length, map, filter, take, drop}
 use Rattle.std.specs.Prelude.{max, Bool, false, not, ◌&&◌, ◌==◌, if◌then◌else◌, nat_lt, nat_le, Option, Some, None, slice_set}
 use Rattle.std.specs.List.{flat_map, starts_with}
-use Rattle.us_ballot_model.specs.declared.log.Vow.{Vow}
+use Rattle.us_ballot_model.specs.declared.log.PromisedLog.{PromisedLog}
 use Rattle.us_ballot_model.specs.declared.log.Role.{Role}
-use Rattle.us_ballot_model.specs.declared.log.Role.TheVariants.{Follows, Collects, Leads}
+use Rattle.us_ballot_model.specs.declared.log.Role.TheVariants.{Follower, Candidate, Leader}
 use Rattle.us_ballot_model.specs.declared.log.BallotLog.{BallotLog}
 use Rattle.us_ballot_model.specs.declared.message.BallotMessage.{BallotMessage}
 use Rattle.us_ballot_model.specs.declared.message.BallotMessage.TheVariants.{NewBallot, Promise, NewState, Accept, Accepted, CatchUp, Learn}
 use Rattle.us_ballot_model.specs.declared.message.BallotOut.{BallotOut}
 use Rattle.us_ballot_model.specs.declared.message.Appended.{Appended}
 use Rattle.us_ballot_model.specs.declared.message.Appended.TheVariants.{In, NotLeader, Full}
-use Rattle.us_ballot_model.specs.Ballots.{others, owner, next_ballot, LAST, count, held, WINDOW, own_vow}
-use Rattle.us_ballot_model.specs.Ballots.{vowed, best, no_acks, backers, ack_of, most, follows, leads, to_others}
+use Rattle.us_ballot_model.specs.Ballots.{others, owner, next_ballot, LAST, count, held, WINDOW, own_promise}
+use Rattle.us_ballot_model.specs.Ballots.{has_promised, best, no_acks, backers, ack_of, most, follows, leads, to_others}
 
 -- a log after a step, and what the step gives
 pub record Stepped (E : Type 0) : Type 0 where
@@ -45,35 +45,35 @@ abbrev pub advance_by : {E : Type 0} → BallotLog E → ℕ → Stepped E
 advance_by c k = if nat_lt 0 k then advanced c k else dropped c
 
 abbrev pub ready_as : {E : Type 0} → BallotLog E → Role E → ℕ
-ready_as c Follows = 0
-ready_as c (Collects vows) = 0
-ready_as c (Leads acks) = ready c acks
+ready_as c Follower = 0
+ready_as c (Candidate promises) = 0
+ready_as c (Leader acks) = ready c acks
 
 unfoldable pub advance : {E : Type 0} → BallotLog E → Stepped E
 advance c = advance_by c (ready_as c c.role)
 
 -- START, with f + 1 promises: the best one's entries behind what is chosen here are the tail of the ballot
-abbrev pub led : {E : Type 0} → BallotLog E → Vow E → BallotLog E
-led c v = record c { tail = drop (count c - v.base) v.tail; accepted = c.ballot; role = Leads no_acks }
+abbrev pub led : {E : Type 0} → BallotLog E → PromisedLog E → BallotLog E
+led c v = record c { tail = drop (count c - v.base) v.tail; accepted = c.ballot; role = Leader no_acks }
 
 abbrev pub begin : {E : Type 0} → BallotLog E → Stepped E
 begin c = before (to_others c (NewState c.ballot (count c) c.tail)) [] (advance c)
 
 -- where the best promise has more chosen entries, it is asked for them first
-abbrev pub start_by : {E : Type 0} → BallotLog E → Vow E → Stepped E
+abbrev pub start_by : {E : Type 0} → BallotLog E → PromisedLog E → Stepped E
 start_by c v = if nat_lt (count c) v.base then sending c ((v.site, CatchUp (count c)) ∷ []) else begin (led c v)
 
-abbrev pub best_of : {E : Type 0} → List (Vow E) → Option (Vow E)
+abbrev pub best_of : {E : Type 0} → List (PromisedLog E) → Option (PromisedLog E)
 best_of [] = None
 best_of (v ∷ vs) = Some (best v vs)
 
 -- the best promise, where a collector has f + 1
-abbrev pub due : {E : Type 0} → BallotLog E → Role E → Option (Vow E)
-due c Follows = None
-due c (Collects vows) = if nat_lt c.f (length vows) then best_of vows else None
-due c (Leads acks) = None
+abbrev pub due : {E : Type 0} → BallotLog E → Role E → Option (PromisedLog E)
+due c Follower = None
+due c (Candidate promises) = if nat_lt c.f (length promises) then best_of promises else None
+due c (Leader acks) = None
 
-abbrev pub start_with : {E : Type 0} → BallotLog E → Option (Vow E) → Stepped E
+abbrev pub start_with : {E : Type 0} → BallotLog E → Option (PromisedLog E) → Stepped E
 start_with c None = dropped c
 start_with c (Some v) = start_by c v
 
@@ -82,7 +82,7 @@ start c = start_with c (due c c.role)
 
 -- LEAD: the next ballot of its own
 abbrev pub collecting : {E : Type 0} → BallotLog E → ℕ → BallotLog E
-collecting c b = record c { ballot = b; role = Collects (own_vow c ∷ []) }
+collecting c b = record c { ballot = b; role = Candidate (own_promise c ∷ []) }
 
 abbrev pub lead_in : {E : Type 0} → BallotLog E → ℕ → Stepped E
 lead_in c b = if nat_lt LAST b then dropped c else before (to_others c (NewBallot b)) [] (start (collecting c b))
@@ -95,7 +95,7 @@ abbrev pub may_follow : {E : Type 0} → BallotLog E → ℕ → ℕ → Bool
 may_follow c from b = nat_le c.ballot b && (owner c.f b == from)
 
 abbrev pub following : {E : Type 0} → BallotLog E → ℕ → BallotLog E
-following c b = record c { ballot = b; role = Follows }
+following c b = record c { ballot = b; role = Follower }
 
 unfoldable pub new_ballot : {E : Type 0} → BallotLog E → ℕ → ℕ → Stepped E
 new_ballot c from b =
@@ -104,23 +104,23 @@ new_ballot c from b =
     else dropped c
 
 -- PROMISE: a collector takes one of each site until it has f + 1
-abbrev pub may_record : {E : Type 0} → BallotLog E → List (Vow E) → ℕ → ℕ → Bool
-may_record c vows from b = (b == c.ballot) && (nat_le (length vows) c.f && not (vowed vows from))
+abbrev pub may_record : {E : Type 0} → BallotLog E → List (PromisedLog E) → ℕ → ℕ → Bool
+may_record c promises from b = (b == c.ballot) && (nat_le (length promises) c.f && not (has_promised promises from))
 
 abbrev pub may_promise : {E : Type 0} → BallotLog E → ℕ → ℕ → Role E → Bool
-may_promise c from b Follows = false
-may_promise c from b (Collects vows) = may_record c vows from b
-may_promise c from b (Leads acks) = false
+may_promise c from b Follower = false
+may_promise c from b (Candidate promises) = may_record c promises from b
+may_promise c from b (Leader acks) = false
 
-abbrev pub with_vow : {E : Type 0} → Role E → Vow E → Role E
-with_vow Follows v = Follows
-with_vow (Collects vows) v = Collects (vows ++ v ∷ [])
-with_vow (Leads acks) v = Leads acks
+abbrev pub with_promise : {E : Type 0} → Role E → PromisedLog E → Role E
+with_promise Follower v = Follower
+with_promise (Candidate promises) v = Candidate (promises ++ v ∷ [])
+with_promise (Leader acks) v = Leader acks
 
-abbrev pub recorded : {E : Type 0} → BallotLog E → Vow E → BallotLog E
-recorded c v = record c { role = with_vow c.role v }
+abbrev pub recorded : {E : Type 0} → BallotLog E → PromisedLog E → BallotLog E
+recorded c v = record c { role = with_promise c.role v }
 
-unfoldable pub promise : {E : Type 0} → BallotLog E → ℕ → Vow E → Stepped E
+unfoldable pub promise : {E : Type 0} → BallotLog E → ℕ → PromisedLog E → Stepped E
 promise c b v = if may_promise c v.site b c.role then start (recorded c v) else dropped c
 
 -- NEWSTATE: the entries behind what is chosen here are the tail of the ballot, unless the tail is of it already
@@ -163,9 +163,9 @@ abbrev pub raised : List (Option ℕ) → ℕ → ℕ → List (Option ℕ)
 raised acks from n = slice_set acks (from - 1) (Some (risen (ack_of acks from) n))
 
 abbrev pub with_ack : {E : Type 0} → Role E → ℕ → ℕ → Role E
-with_ack Follows from n = Follows
-with_ack (Collects vows) from n = Collects vows
-with_ack (Leads acks) from n = Leads (raised acks from n)
+with_ack Follower from n = Follower
+with_ack (Candidate promises) from n = Candidate promises
+with_ack (Leader acks) from n = Leader (raised acks from n)
 
 abbrev pub heard : {E : Type 0} → BallotLog E → ℕ → ℕ → BallotLog E
 heard c from n = record c { role = with_ack c.role from n }
@@ -214,8 +214,8 @@ take_message eq c from (Learn first es) = learn eq c first es
 
 -- TICK: every other site is asked for chosen entries. A collector asks again for promises, a leader repeats what a site
 -- hasn't acknowledged
-abbrev pub missing : {E : Type 0} → BallotLog E → List (Vow E) → List ℕ
-missing c vows = filter (λ j. not (vowed vows j)) (others c)
+abbrev pub missing : {E : Type 0} → BallotLog E → List (PromisedLog E) → List ℕ
+missing c promises = filter (λ j. not (has_promised promises j)) (others c)
 
 abbrev pub accepts : {E : Type 0} → ℕ → ℕ → ℕ → List E → List (ℕ × BallotMessage E)
 accepts j b slot [] = []
@@ -229,9 +229,9 @@ repeated c j None = (j, NewState c.ballot (count c) c.tail) ∷ []
 repeated c j (Some n) = accepts_after c j (max n (count c))
 
 abbrev pub repeats : {E : Type 0} → BallotLog E → Role E → List (ℕ × BallotMessage E)
-repeats c Follows = []
-repeats c (Collects vows) = if nat_lt c.f (length vows) then [] else map (λ j. (j, NewBallot c.ballot)) (missing c vows)
-repeats c (Leads acks) = flat_map (λ j. repeated c j (ack_of acks j)) (others c)
+repeats c Follower = []
+repeats c (Candidate promises) = if nat_lt c.f (length promises) then [] else map (λ j. (j, NewBallot c.ballot)) (missing c promises)
+repeats c (Leader acks) = flat_map (λ j. repeated c j (ack_of acks j)) (others c)
 
 unfoldable pub tick : {E : Type 0} → BallotLog E → Stepped E
 tick c = sending c (to_others c (CatchUp (count c)) ++ repeats c c.role)

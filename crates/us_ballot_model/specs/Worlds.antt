@@ -19,12 +19,12 @@ pub record World (E : Type 0) : Type 0 where
   pub appended : List E
 
 -- what may happen next; a message comes by its place among those ever sent
-pub data Happening (E : Type 0) : Type 0 where
-  Leads : (site : ℕ) → Happening E
-  Appends : (site : ℕ) → (entry : E) → Happening E
-  Ticks : (site : ℕ) → Happening E
-  Crashes : (site : ℕ) → Happening E
-  Comes : (place : ℕ) → Happening E
+pub data WorldEvent (E : Type 0) : Type 0 where
+  Lead : (site : ℕ) → WorldEvent E
+  Append : (site : ℕ) → (entry : E) → WorldEvent E
+  Tick : (site : ℕ) → WorldEvent E
+  Crash : (site : ℕ) → WorldEvent E
+  Deliver : (place : ℕ) → WorldEvent E
 
 -- what one site is, with another value at a site
 unfoldable pub put : {X : Type 0} → (ℕ → X) → ℕ → X → ℕ → X
@@ -50,21 +50,21 @@ abbrev pub appends : {E : Type 0} → ℕ → World E → ℕ → E → World E
 appends f w s e =
     if acts f w s && may_append (w.at s) then record (stepped w s (append (w.at s) e)) { appended = w.appended ++ e ∷ [] } else w
 
-abbrev pub comes : {E : Type 0} → (E → E → Bool) → ℕ → World E → Option (Sent E) → World E
-comes eq f w None = w
-comes eq f w (Some p) = steps f w p.to (take_message eq (w.at p.to) p.from p.message)
+abbrev pub deliver_packet : {E : Type 0} → (E → E → Bool) → ℕ → World E → Option (Sent E) → World E
+deliver_packet eq f w None = w
+deliver_packet eq f w (Some p) = steps f w p.to (take_message eq (w.at p.to) p.from p.message)
 
-unfoldable pub happens : {E : Type 0} → (E → E → Bool) → ℕ → World E → Happening E → World E
-happens eq f w (Leads s) = steps f w s (lead (w.at s))
-happens eq f w (Appends s e) = appends f w s e
-happens eq f w (Ticks s) = steps f w s (tick (w.at s))
-happens eq f w (Crashes s) = record w { live = put w.live s false }
-happens eq f w (Comes k) = comes eq f w (slice_get w.sent k)
+unfoldable pub world_step : {E : Type 0} → (E → E → Bool) → ℕ → World E → WorldEvent E → World E
+world_step eq f w (Lead s) = steps f w s (lead (w.at s))
+world_step eq f w (Append s e) = appends f w s e
+world_step eq f w (Tick s) = steps f w s (tick (w.at s))
+world_step eq f w (Crash s) = record w { live = put w.live s false }
+world_step eq f w (Deliver k) = deliver_packet eq f w (slice_get w.sent k)
 
 -- A RUN: one thing after another
-abbrev pub run : {E : Type 0} → (E → E → Bool) → ℕ → List (Happening E) → World E → World E
+abbrev pub run : {E : Type 0} → (E → E → Bool) → ℕ → List (WorldEvent E) → World E → World E
 run eq f [] w = w
-run eq f (h ∷ hs) w = run eq f hs (happens eq f w h)
+run eq f (h ∷ hs) w = run eq f hs (world_step eq f w h)
 
 -- before anything happened
 abbrev pub opening_world : {E : Type 0} → ℕ → World E

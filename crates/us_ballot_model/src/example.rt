@@ -7,8 +7,8 @@ pub fn worked_example()
     ensures first { (after first_part).sent ≡ first_messages }
     ensures second { (after (first_part ++ second_part)).sent ≡ first_messages ++ second_messages }
     ensures third { (after (first_part ++ second_part ++ third_part)).sent ≡ first_messages ++ second_messages ++ third_messages }
-    ensures follower { (after (first_part ++ second_part ++ third_part)).at 1 ≡ settled 1 role.Follows }
+    ensures follower { (after (first_part ++ second_part ++ third_part)).at 1 ≡ settled 1 role.Follower }
     ensures leader { (after (first_part ++ second_part ++ third_part)).at 2 ≡
-        settled 2 (role.Leads (None ∷ None ∷ Some 1 ∷ None ∷ None ∷ None ∷ None ∷ None ∷ None ∷ [])) }
-    ensures other { (after (first_part ++ second_part ++ third_part)).at 3 ≡ settled 3 role.Follows }
+        settled 2 (role.Leader (None ∷ None ∷ Some 1 ∷ None ∷ None ∷ None ∷ None ∷ None ∷ None ∷ [])) }
+    ensures other { (after (first_part ++ second_part ++ third_part)).at 3 ≡ settled 3 role.Follower }
 {}

@@ -6,5 +6,5 @@ mod log;
 mod message;
 
 pub use example::worked_example;
-pub use log::{BallotLog, Role, Vow};
+pub use log::{BallotLog, PromisedLog, Role};
 pub use message::{Appended, BallotMessage, BallotOut};

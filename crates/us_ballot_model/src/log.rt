@@ -2,7 +2,7 @@ use us_kind::Items;
 
 /// A promise as its collector keeps it: who gave it, the ballot of its tail, how many entries it had chosen, its tail.
 #[derive(Debug, Drop)]
-pub struct Vow<E> {
+pub struct PromisedLog<E> {
     pub site: u8,
     pub accepted: u64,
     pub base: u64,
@@ -13,12 +13,12 @@ pub struct Vow<E> {
 #[derive(Debug, Drop)]
 pub enum Role<E> {
     /// It follows the ballot's owner.
-    Follows,
+    Follower,
     /// It owns the ballot and collects promises, each site's at most once.
-    Collects { vows: Items<Vow<E>> },
+    Candidate { promises: Items<PromisedLog<E>> },
     /// It owns the ballot and leads. At place `j - 1` stands the length that site j acknowledged, where it has; its own place
     /// stays empty, since what it holds itself is its length at every moment.
-    Leads { acks: [Option<u64>; 9] },
+    Leader { acks: [Option<u64>; 9] },
 }
 
 /// One site's ballot log: of 2f + 1 sites the one of this number, its ballot, the ballot of its tail, the chosen entries

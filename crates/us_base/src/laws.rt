@@ -14,7 +14,7 @@ pub fn one_entry_is_changed()
     ensures { ChangesOneEntry }
 {}
 
-/// What may be held, spelled and asked for at a site.
+/// What may be held, encoded and asked for at a site.
 pub fn limits_of_a_site()
     ensures sites { Limits.SITES ≡ 7 }
     ensures partitions { Limits.PARTITIONS ≡ 16 }

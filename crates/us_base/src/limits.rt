@@ -17,10 +17,10 @@ impl Limits {
     /// The operations of a transaction.
     pub const OPERATIONS: usize = 64;
 
-    /// The bytes in which the writes of a transaction are spelled.
+    /// The bytes in which the writes of a transaction are encoded.
     pub const WRITES: usize = 65_536;
 
-    /// The bytes in which an answer is spelled.
+    /// The bytes in which an answer is encoded.
     pub const ANSWER: usize = 65_000;
 
     /// The bytes of a client's frame, its length among them.

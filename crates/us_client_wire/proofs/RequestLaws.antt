@@ -1,24 +1,24 @@
--- Requests are read as they are spelled.
+-- Requests are read as they are encoded.
 use Rattle.std.proofs.Common.{◌≡◌, ℕ, ◌≤◌, ◌==◌, true, false, [], length, Some, refl, sym, ◌∙◌, arith, length-append}
 use Rattle.std.proofs.lemmas.Bool.{eqb-true}
 use Rattle.us_base.specs.declared.shape.Shape.{Shape}
 use Rattle.us_base.specs.Shape.{IsShape}
-use Rattle.us_wire.specs.Readings.{and_then, ReadsOn}
+use Rattle.us_wire.specs.Decoders.{and_then, IsCodecWithin}
 use Rattle.us_wire.specs.Whole.{IsShort}
 use Rattle.us_wire.proofs.Combined.{on, reads_made, reads_made_two, reads_nothing, reads_none, reads_either}
 use Rattle.us_wire.proofs.WholeFrames.{reads_tagged, reads_frames}
 use Rattle.us_migrate.specs.declared.token.Token.{Token}
-use Rattle.us_migrate.specs.Spellings.{token_spelling, TokenFits}
-use Rattle.us_migrate.specs.Readings.{token_at}
-use Rattle.us_migrate.proofs.Spelled.{reads_tokens, token_spelling-short}
+use Rattle.us_migrate.specs.Encodings.{token_encoding, TokenFits}
+use Rattle.us_migrate.specs.Decoders.{token_at}
+use Rattle.us_migrate.proofs.Encoded.{reads_tokens, token_encoding-short}
 use Rattle.us_value.specs.declared.item.Item.{Item}
 use Rattle.us_value.specs.declared.operation.Op.{Op}
 use Rattle.us_value.specs.declared.operation.Op.TheVariants as op
 use Rattle.us_client_wire.specs.declared.frame.Request.{Request}
 use Rattle.us_client_wire.specs.declared.frame.Request.TheVariants.{Begin, Perform, CommitCausal, CommitStrong, Abandon, Barrier, AskToken, Attach}
-use Rattle.us_fields.specs.Fields.{item_spelling, ItemFits, op_spelling, op_fields, OpFits}
-use Rattle.us_fields.specs.FieldReadings.{item_at, op_at}
-use Rattle.us_client_wire.specs.Requests.{request_tag, request_fields, request_spelling, RequestFits, perform_at, request_fields_at, request_of}
+use Rattle.us_fields.specs.Fields.{item_encoding, ItemFits, op_encoding, op_fields, OpFits}
+use Rattle.us_fields.specs.FieldDecoders.{item_at, op_at}
+use Rattle.us_client_wire.specs.Requests.{request_tag, request_fields, request_encoding, RequestFits, perform_at, request_fields_at, request_of}
 use Rattle.us_client_wire.specs.Laws.{ReadsRequests}
 use Rattle.us_fields.proofs.FieldLaws.{unlike, reads_items, reads_ops}
 
@@ -57,13 +57,13 @@ tag_8 : (shape : Shape) (r : Request) → request_tag r ≡ 8 → RequestFits sh
 tag_8 shape (Attach token) e f = (token, refl, f)
 tag_8 shape _ e f = absurd (cc)
 
-reads_request_fields : (shape : Shape) → IsShape shape → (tag : ℕ) → ReadsOn (IsRequest shape tag) (request_fields shape) (request_fields_at shape tag)
+reads_request_fields : (shape : Shape) → IsShape shape → (tag : ℕ) → IsCodecWithin (IsRequest shape tag) (request_fields shape) (request_fields_at shape tag)
 unfolding request_fields_at perform_at
 reads_request_fields shape is_shape tag =
     reads_either (tag == 1) (IsRequest shape tag) (request_fields shape) _ _ (λ t. bare 1 Begin t refl refl tt tag_1) (λ n1.
     reads_either (tag == 2) (IsRequest shape tag) (request_fields shape) _ _ (λ t.
     on (IsRequest shape tag) (request_fields shape) (λ input at. and_then (item_at input at) (λ item at'. and_then (op_at input at') (λ o next. Some (Perform item o, next))))
-    (reads_made_two ItemFits item_spelling item_at OpFits op_spelling op_at (λ item o. Perform item o) (IsRequest shape tag) (request_fields shape) reads_items reads_ops
+    (reads_made_two ItemFits item_encoding item_at OpFits op_encoding op_at (λ item o. Perform item o) (IsRequest shape tag) (request_fields shape) reads_items reads_ops
     (λ item o f g. (sym (eqb-true tag 2 t), (f, g))) (λ item o f g. refl) (λ r h. tag_2 shape r (h.0 ∙ eqb-true tag 2 t) h.1))) (λ n2.
     reads_either (tag == 3) (IsRequest shape tag) (request_fields shape) _ _ (λ t. bare 3 CommitCausal t refl refl tt tag_3) (λ n3.
     reads_either (tag == 4) (IsRequest shape tag) (request_fields shape) _ _ (λ t. bare 4 CommitStrong t refl refl tt tag_4) (λ n4.
@@ -72,11 +72,11 @@ reads_request_fields shape is_shape tag =
     reads_either (tag == 7) (IsRequest shape tag) (request_fields shape) _ _ (λ t. bare 7 AskToken t refl refl tt tag_7) (λ n7.
     reads_either (tag == 8) (IsRequest shape tag) (request_fields shape) _ _ (λ t.
     on (IsRequest shape tag) (request_fields shape) (λ input at. and_then (token_at shape input at) (λ token next. Some (Attach token, next)))
-    (reads_made (TokenFits shape) (token_spelling shape) (token_at shape) (λ token. Attach token) (IsRequest shape tag) (request_fields shape) (reads_tokens shape is_shape)
+    (reads_made (TokenFits shape) (token_encoding shape) (token_at shape) (λ token. Attach token) (IsRequest shape tag) (request_fields shape) (reads_tokens shape is_shape)
     (λ token f. (sym (eqb-true tag 8 t), f)) (λ token f. refl) (λ r h. tag_8 shape r (h.0 ∙ eqb-true tag 8 t) h.1))) (λ n8.
     reads_none (IsRequest shape tag) (request_fields shape) (λ r h. none r h n1 n2 n3 n4 n5 n6 n7 n8)))))))))
   where
-    bare : (k : ℕ) (c : Request) → (tag == k) ≡ true → request_tag c ≡ k → request_fields shape c ≡ [] → RequestFits shape c → ((r : Request) → request_tag r ≡ k → c ≡ r) → ReadsOn (IsRequest shape tag) (request_fields shape) (λ input at. Some (c, at))
+    bare : (k : ℕ) (c : Request) → (tag == k) ≡ true → request_tag c ≡ k → request_fields shape c ≡ [] → RequestFits shape c → ((r : Request) → request_tag r ≡ k → c ≡ r) → IsCodecWithin (IsRequest shape tag) (request_fields shape) (λ input at. Some (c, at))
     bare k c test is empty fits only =
         let same : tag ≡ k = eqb-true tag k test in
         reads_nothing c (IsRequest shape tag) (request_fields shape) (λ r h. only r (h.0 ∙ same)) (is ∙ sym same, fits) empty
@@ -119,16 +119,16 @@ op_fields-short (op.MultiWrite bytes) f = omega arith
 -- no request is longer than a length field can tell
 pub request-short : (shape : Shape) → IsShape shape → (r : Request) → RequestFits shape r → IsShort (request_fields shape r)
 request-short shape is Begin f = record { short = omega arith }
-request-short shape is (Perform item o) f = record { short = omega (arith, length-append item.id (op_spelling o), op_fields-short o f.1, f.0.id.last) }
+request-short shape is (Perform item o) f = record { short = omega (arith, length-append item.id (op_encoding o), op_fields-short o f.1, f.0.id.last) }
 request-short shape is CommitCausal f = record { short = omega arith }
 request-short shape is CommitStrong f = record { short = omega arith }
 request-short shape is Abandon f = record { short = omega arith }
 request-short shape is Barrier f = record { short = omega arith }
 request-short shape is AskToken f = record { short = omega arith }
-request-short shape is (Attach token) f = record { short = omega (arith, token_spelling-short shape token is f) }
+request-short shape is (Attach token) f = record { short = omega (arith, token_encoding-short shape token is f) }
 
 pub reads_requests : ReadsRequests
-unfolding request_spelling request_of
+unfolding request_encoding request_of
 reads_requests shape is =
     reads_frames request_tag (RequestFits shape) (RequestFits shape) (request_fields shape) (request_fields_at shape)
     (reads_tagged request_tag (RequestFits shape) (request_fields shape) (request_fields_at shape) request_tag-byte (reads_request_fields shape is))

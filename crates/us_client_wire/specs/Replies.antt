@@ -1,16 +1,16 @@
--- Replies: how a frame spells one, and which reply a frame is.
+-- Replies: how a frame encodes one, and which reply a frame is.
 use Rattle.std.specs.Prelude.{ℕ, ◌<◌, ◌^◌, List, [], ◌∷◌, ◌++◌, ◌==◌, Option, None, Some, if◌then◌else◌}
 use Rattle.std.specs.Int.{to_be_bytes, w8, w64}
 use Rattle.us_base.specs.declared.shape.Shape.{Shape}
 use Rattle.us_wire.specs.Fields.{number_at}
-use Rattle.us_wire.specs.Readings.{Reading, and_then, number_between_at}
-use Rattle.us_wire.specs.Whole.{frame_spelling, frame_of, IsShort}
-use Rattle.us_migrate.specs.Spellings.{tid_spelling, token_spelling, IsOneOf, TidFits, TokenFits}
-use Rattle.us_migrate.specs.Readings.{tid_at, token_at}
+use Rattle.us_wire.specs.Decoders.{Decoder, and_then, number_between_at}
+use Rattle.us_wire.specs.Whole.{frame_encoding, frame_of, IsShort}
+use Rattle.us_migrate.specs.Encodings.{tid_encoding, token_encoding, IsOneOf, TidFits, TokenFits}
+use Rattle.us_migrate.specs.Decoders.{tid_at, token_at}
 use Rattle.us_client_wire.specs.declared.frame.Reply.{Reply}
 use Rattle.us_client_wire.specs.declared.frame.Reply.TheVariants.{Started, Answered, Committed, Aborted, Dropped, Passed, TokenIs, Attached, Refused}
-use Rattle.us_fields.specs.Fields.{item_spelling, answer_spelling, ItemFits, AnswerFits}
-use Rattle.us_fields.specs.FieldReadings.{item_at, answer_at}
+use Rattle.us_fields.specs.Fields.{item_encoding, answer_encoding, ItemFits, AnswerFits}
+use Rattle.us_fields.specs.FieldDecoders.{item_at, answer_at}
 
 -- which reply it is
 abbrev pub reply_tag : Reply → ℕ
@@ -37,48 +37,49 @@ reply_at (Attached at) = at
 reply_at (Refused at number) = at
 
 -- what is told behind it
-abbrev pub told_spelling : Shape → Reply → List ℕ
-told_spelling shape (Started at tid) = tid_spelling tid
-told_spelling shape (Answered at answer) = answer_spelling answer
-told_spelling shape (Committed at count) = to_be_bytes w64 count
-told_spelling shape (Aborted at named item) = tid_spelling named ++ item_spelling item
-told_spelling shape (Dropped at) = []
-told_spelling shape (Passed at) = []
-told_spelling shape (TokenIs at token) = token_spelling shape token
-told_spelling shape (Attached at) = []
-told_spelling shape (Refused at number) = number ∷ []
+abbrev pub body_encoding : Shape → Reply → List ℕ
+body_encoding shape (Started at tid) = tid_encoding tid
+body_encoding shape (Answered at answer) = answer_encoding answer
+body_encoding shape (Committed at count) = to_be_bytes w64 count
+body_encoding shape (Aborted at named item) = tid_encoding named ++ item_encoding item
+body_encoding shape (Dropped at) = []
+body_encoding shape (Passed at) = []
+body_encoding shape (TokenIs at token) = token_encoding shape token
+body_encoding shape (Attached at) = []
+body_encoding shape (Refused at number) = number ∷ []
 
 abbrev pub reply_fields : Shape → Reply → List ℕ
-reply_fields shape reply = to_be_bytes w64 (reply_at reply) ++ told_spelling shape reply
+reply_fields shape reply = to_be_bytes w64 (reply_at reply) ++ body_encoding shape reply
 
--- THE SPELLING OF A REPLY
-unfoldable pub reply_spelling : Shape → Reply → List ℕ
-reply_spelling shape reply = frame_spelling (reply_tag reply) (reply_fields shape reply)
+-- THE ENCODING OF A REPLY
+unfoldable pub reply_encoding : Shape → Reply → List ℕ
+reply_encoding shape reply = frame_encoding (reply_tag reply) (reply_fields shape reply)
 
--- what is told has a spelling in a store of this shape
-abbrev pub ToldFits : Shape → Reply → Type 0
-ToldFits shape (Started at tid) = TidFits shape tid
-ToldFits shape (Answered at answer) = AnswerFits answer
-ToldFits shape (Committed at count) = count < 2 ^ 64
-ToldFits shape (Aborted at named item) = TidFits shape named × ItemFits item
-ToldFits shape (Dropped at) = Unit {0}
-ToldFits shape (Passed at) = Unit {0}
-ToldFits shape (TokenIs at token) = TokenFits shape token
-ToldFits shape (Attached at) = Unit {0}
-ToldFits shape (Refused at number) = IsOneOf 11 number
+-- what is told has an encoding in a store of this shape
+abbrev pub BodyFits : Shape → Reply → Type 0
+BodyFits shape (Started at tid) = TidFits shape tid
+BodyFits shape (Answered at answer) = AnswerFits answer
+BodyFits shape (Committed at count) = count < 2 ^ 64
+BodyFits shape (Aborted at named item) = TidFits shape named × ItemFits item
+BodyFits shape (Dropped at) = Unit {0}
+BodyFits shape (Passed at) = Unit {0}
+BodyFits shape (TokenIs at token) = TokenFits shape token
+BodyFits shape (Attached at) = Unit {0}
+BodyFits shape (Refused at number) = IsOneOf 11 number
 
--- a reply that has a spelling: its fields do, and they are shorter than a length field can tell
+-- a reply that has an encoding: its fields do, and they are shorter than a length field can tell
 pub record ReplyFits (shape : Shape) (reply : Reply) : Type 0 where
   pub at : reply_at reply < 2 ^ 64
-  pub told : ToldFits shape reply
+  pub body : BodyFits shape reply
   pub short : IsShort (reply_fields shape reply)
 
-unfoldable pub aborted_at : Shape → ℕ → Reading Reply
-aborted_at shape number input at = and_then (tid_at shape input at) (λ named at'. and_then (item_at input at') (λ item next. Some (Aborted number named item, next)))
+unfoldable pub aborted_at : Shape → ℕ → Decoder Reply
+aborted_at shape number input at =
+    and_then (tid_at shape input at) (λ named at'. and_then (item_at input at') (λ item next. Some (Aborted number named item, next)))
 
 -- what is told by the reply with this tag, and this number of a frame
-unfoldable pub told_at : Shape → ℕ → ℕ → Reading Reply
-told_at shape tag number input at =
+unfoldable pub body_at : Shape → ℕ → ℕ → Decoder Reply
+body_at shape tag number input at =
     if tag == 129 then and_then (tid_at shape input at) (λ tid next. Some (Started number tid, next))
     else if tag == 130 then and_then (answer_at input at) (λ answer next. Some (Answered number answer, next))
     else if tag == 131 then and_then (number_at w64 input at) (λ count next. Some (Committed number count, next))
@@ -91,8 +92,8 @@ told_at shape tag number input at =
     else None
 
 -- the fields of the reply with this tag
-unfoldable pub reply_fields_at : Shape → ℕ → Reading Reply
-reply_fields_at shape tag input at = and_then (number_at w64 input at) (λ number next. told_at shape tag number input next)
+unfoldable pub reply_fields_at : Shape → ℕ → Decoder Reply
+reply_fields_at shape tag input at = and_then (number_at w64 input at) (λ number next. body_at shape tag number input next)
 
 -- THE REPLY THAT A FRAME IS, if it is one
 unfoldable pub reply_of : Shape → List ℕ → Option Reply

@@ -1,14 +1,14 @@
--- Requests: how a frame spells one, and which request a frame is.
+-- Requests: how a frame encodes one, and which request a frame is.
 use Rattle.std.specs.Prelude.{ℕ, List, [], ◌++◌, ◌==◌, Option, None, Some, if◌then◌else◌}
 use Rattle.us_base.specs.declared.shape.Shape.{Shape}
-use Rattle.us_wire.specs.Readings.{Reading, and_then}
-use Rattle.us_wire.specs.Whole.{frame_spelling, frame_of}
-use Rattle.us_migrate.specs.Spellings.{token_spelling, TokenFits}
-use Rattle.us_migrate.specs.Readings.{token_at}
+use Rattle.us_wire.specs.Decoders.{Decoder, and_then}
+use Rattle.us_wire.specs.Whole.{frame_encoding, frame_of}
+use Rattle.us_migrate.specs.Encodings.{token_encoding, TokenFits}
+use Rattle.us_migrate.specs.Decoders.{token_at}
 use Rattle.us_client_wire.specs.declared.frame.Request.{Request}
 use Rattle.us_client_wire.specs.declared.frame.Request.TheVariants.{Begin, Perform, CommitCausal, CommitStrong, Abandon, Barrier, AskToken, Attach}
-use Rattle.us_fields.specs.Fields.{item_spelling, op_spelling, ItemFits, OpFits}
-use Rattle.us_fields.specs.FieldReadings.{item_at, op_at}
+use Rattle.us_fields.specs.Fields.{item_encoding, op_encoding, ItemFits, OpFits}
+use Rattle.us_fields.specs.FieldDecoders.{item_at, op_at}
 
 -- which request it is
 abbrev pub request_tag : Request → ℕ
@@ -23,19 +23,19 @@ request_tag (Attach token) = 8
 
 abbrev pub request_fields : Shape → Request → List ℕ
 request_fields shape Begin = []
-request_fields shape (Perform item op) = item_spelling item ++ op_spelling op
+request_fields shape (Perform item op) = item_encoding item ++ op_encoding op
 request_fields shape CommitCausal = []
 request_fields shape CommitStrong = []
 request_fields shape Abandon = []
 request_fields shape Barrier = []
 request_fields shape AskToken = []
-request_fields shape (Attach token) = token_spelling shape token
+request_fields shape (Attach token) = token_encoding shape token
 
--- THE SPELLING OF A REQUEST
-unfoldable pub request_spelling : Shape → Request → List ℕ
-request_spelling shape request = frame_spelling (request_tag request) (request_fields shape request)
+-- THE ENCODING OF A REQUEST
+unfoldable pub request_encoding : Shape → Request → List ℕ
+request_encoding shape request = frame_encoding (request_tag request) (request_fields shape request)
 
--- a request that has a spelling in a store of this shape
+-- a request that has an encoding in a store of this shape
 abbrev pub RequestFits : Shape → Request → Type 0
 RequestFits shape Begin = Unit {0}
 RequestFits shape (Perform item op) = ItemFits item × OpFits op
@@ -47,11 +47,11 @@ RequestFits shape AskToken = Unit {0}
 RequestFits shape (Attach token) = TokenFits shape token
 
 -- an item, and an operation on it
-unfoldable pub perform_at : Reading Request
+unfoldable pub perform_at : Decoder Request
 perform_at input at = and_then (item_at input at) (λ item at'. and_then (op_at input at') (λ op next. Some (Perform item op, next)))
 
 -- the fields of the request with this tag
-unfoldable pub request_fields_at : Shape → ℕ → Reading Request
+unfoldable pub request_fields_at : Shape → ℕ → Decoder Request
 request_fields_at shape tag input at =
     if tag == 1 then Some (Begin, at)
     else if tag == 2 then perform_at input at

@@ -2,9 +2,9 @@ ghost use Rattle.std.specs.Prelude.{◌≡◌, ◌⊎◌, ◌≤◌, IfOk, IsOk,
 ghost use Rattle.us_base.specs.Shape.{IsShape};
 ghost use Rattle.us_client_wire.specs.declared.frame.Request.{Request};
 ghost use Rattle.us_client_wire.specs.declared.frame.Reply.{Reply};
-ghost use Rattle.us_fields.specs.Reading.{Tells};
-ghost use Rattle.us_client_wire.specs.Requests.{perform_at, request_fields_at, request_of, request_spelling, RequestFits};
-ghost use Rattle.us_client_wire.specs.Replies.{aborted_at, told_at, reply_fields_at, reply_of, reply_spelling, ReplyFits};
+ghost use Rattle.us_fields.specs.DecodeResult.{Tells};
+ghost use Rattle.us_client_wire.specs.Requests.{perform_at, request_fields_at, request_of, request_encoding, RequestFits};
+ghost use Rattle.us_client_wire.specs.Replies.{aborted_at, body_at, reply_fields_at, reply_of, reply_encoding, ReplyFits};
 
 use crate::frame::{CAUSES, tag};
 use crate::{DecodeFault, Reply, Request};
@@ -88,7 +88,7 @@ fn aborted_in(
 }
 
 /// What the reply with this tag tells of frame `at`.
-#[tactic(auto, unfolding(crate::specs::Replies::told_at))]
+#[tactic(auto, unfolding(crate::specs::Replies::body_at))]
 fn told_in(
     alloc: Global,
     number: u8,
@@ -98,7 +98,7 @@ fn told_in(
     shape: Shape,
 ) -> Result<(Reply, usize), DecodeFault>
     requires { IsShape shape }
-    ensures { Tells result (told_at shape number at input.now place) }
+    ensures { Tells result (body_at shape number at input.now place) }
 {
     match number {
         tag::STARTED => match take_tid(input, place, shape) {
@@ -164,28 +164,28 @@ fn reply_in(alloc: Global, frame: &[u8], shape: Shape) -> Result<Reply, DecodeFa
 }
 
 /// The request that a whole frame is in a store of this shape: Malformed exactly where the frame is no request's
-/// spelling.
+/// encoding.
 pub fn decode_request(alloc: Global, frame: &[u8], shape: Shape) -> Result<Request, DecodeFault>
     requires { IsShape shape }
     ensures decoded { IfOk result (λ request. request_of shape frame.now ≡ Some request) }
     ensures malformed { result ≡ Err DecodeFault.Malformed → request_of shape frame.now ≡ None }
     ensures refused { request_of shape frame.now ≡ None → IsOk result → ⊥ }
-    ensures is_spelling { IfOk result (λ request. (frame.now ≡ request_spelling shape request) × RequestFits shape request) }
-    ensures no_spelling { result ≡ Err DecodeFault.Malformed → (request : Request) → RequestFits shape request → frame.now ≡ request_spelling shape request → ⊥ }
-    ensures spelling_is_read { (request : Request) → RequestFits shape request → frame.now ≡ request_spelling shape request → (result ≡ Ok request) ⊎ (result ≡ Err DecodeFault.Memory) }
+    ensures is_encoding { IfOk result (λ request. (frame.now ≡ request_encoding shape request) × RequestFits shape request) }
+    ensures no_encoding { result ≡ Err DecodeFault.Malformed → (request : Request) → RequestFits shape request → frame.now ≡ request_encoding shape request → ⊥ }
+    ensures encoding_is_read { (request : Request) → RequestFits shape request → frame.now ≡ request_encoding shape request → (result ≡ Ok request) ⊎ (result ≡ Err DecodeFault.Memory) }
 {
     request_in(alloc, frame, shape)
 }
 
-/// The reply that a whole frame is in a store of this shape: Malformed exactly where the frame is no reply's spelling.
+/// The reply that a whole frame is in a store of this shape: Malformed exactly where the frame is no reply's encoding.
 pub fn decode_reply(alloc: Global, frame: &[u8], shape: Shape) -> Result<Reply, DecodeFault>
     requires { IsShape shape }
     ensures decoded { IfOk result (λ reply. reply_of shape frame.now ≡ Some reply) }
     ensures malformed { result ≡ Err DecodeFault.Malformed → reply_of shape frame.now ≡ None }
     ensures refused { reply_of shape frame.now ≡ None → IsOk result → ⊥ }
-    ensures is_spelling { IfOk result (λ reply. (frame.now ≡ reply_spelling shape reply) × ReplyFits shape reply) }
-    ensures no_spelling { result ≡ Err DecodeFault.Malformed → (reply : Reply) → ReplyFits shape reply → frame.now ≡ reply_spelling shape reply → ⊥ }
-    ensures spelling_is_read { (reply : Reply) → ReplyFits shape reply → frame.now ≡ reply_spelling shape reply → (result ≡ Ok reply) ⊎ (result ≡ Err DecodeFault.Memory) }
+    ensures is_encoding { IfOk result (λ reply. (frame.now ≡ reply_encoding shape reply) × ReplyFits shape reply) }
+    ensures no_encoding { result ≡ Err DecodeFault.Malformed → (reply : Reply) → ReplyFits shape reply → frame.now ≡ reply_encoding shape reply → ⊥ }
+    ensures encoding_is_read { (reply : Reply) → ReplyFits shape reply → frame.now ≡ reply_encoding shape reply → (result ≡ Ok reply) ⊎ (result ≡ Err DecodeFault.Memory) }
 {
     reply_in(alloc, frame, shape)
 }

@@ -1,14 +1,14 @@
 ghost use Rattle.std.specs.Prelude.{◌≡◌, ◌≤◌, ◌++◌, IfOk};
 ghost use Rattle.us_base.specs.Shape.{IsShape};
-ghost use Rattle.us_client_wire.specs.Requests.{request_tag, request_fields, request_spelling, RequestFits};
-ghost use Rattle.us_client_wire.specs.Replies.{reply_tag, reply_at, told_spelling, reply_fields, reply_spelling, ToldFits, ReplyFits};
+ghost use Rattle.us_client_wire.specs.Requests.{request_tag, request_fields, request_encoding, RequestFits};
+ghost use Rattle.us_client_wire.specs.Replies.{reply_tag, reply_at, body_encoding, reply_fields, reply_encoding, BodyFits, ReplyFits};
 
 use crate::frame::tag;
 use crate::{Reply, Request};
 use std::alloc::Global;
 use us_base::Shape;
 use us_fields::{frame_of, put_answer, put_item, put_op};
-use us_kind::{Bytes, Memory};
+use us_kind::Memory;
 use us_migrate::{put_tid, write_token};
 use us_wire::{put_u8, put_u64};
 
@@ -84,8 +84,8 @@ fn at_of(reply: &Reply) -> u64
 
 fn put_told(mut out: Vec<u8>, reply: &Reply, shape: Shape) -> Result<Vec<u8>, Memory>
     requires shape { IsShape shape }
-    requires fits { ToldFits shape reply.now }
-    ensures { IfOk result (λ new. new.items ≡ out.items ++ told_spelling shape reply.now) }
+    requires fits { BodyFits shape reply.now }
+    ensures { IfOk result (λ new. new.items ≡ out.items ++ body_encoding shape reply.now) }
 {
     match reply {
         Reply::Started { tid, .. } => {
@@ -115,7 +115,7 @@ fn put_told(mut out: Vec<u8>, reply: &Reply, shape: Shape) -> Result<Vec<u8>, Me
 
 fn put_reply_fields(mut out: Vec<u8>, reply: &Reply, shape: Shape) -> Result<Vec<u8>, Memory>
     requires shape { IsShape shape }
-    requires fits { ToldFits shape reply.now }
+    requires fits { BodyFits shape reply.now }
     ensures { IfOk result (λ new. new.items ≡ out.items ++ reply_fields shape reply.now) }
 {
     put_u64(&mut out, at_of(reply))?;
@@ -123,25 +123,23 @@ fn put_reply_fields(mut out: Vec<u8>, reply: &Reply, shape: Shape) -> Result<Vec
 }
 
 /// The whole frame of a request.
-#[tactic(auto, unfolding(crate::specs::Requests::request_spelling))]
-pub fn encode_request(alloc: Global, request: &Request, shape: Shape) -> Result<Bytes, Memory>
+#[tactic(auto, unfolding(crate::specs::Requests::request_encoding))]
+pub fn encode_request(alloc: Global, request: &Request, shape: Shape) -> Result<Vec<u8>, Memory>
     requires shape { IsShape shape }
     requires fits { RequestFits shape request.now }
-    ensures { IfOk result (λ bytes. bytes ≡ request_spelling shape request.now) }
+    ensures { IfOk result (λ frame. frame.items ≡ request_encoding shape request.now) }
 {
     let fields = put_request_fields(Vec::new(alloc), request, shape)?;
-    let frame = frame_of(alloc, tag_of_request(request), fields.as_slice())?;
-    Ok(Bytes::of(frame))
+    frame_of(alloc, tag_of_request(request), fields.as_slice())
 }
 
 /// The whole frame of a reply.
-#[tactic(auto, unfolding(crate::specs::Replies::reply_spelling))]
-pub fn encode_reply(alloc: Global, reply: &Reply, shape: Shape) -> Result<Bytes, Memory>
+#[tactic(auto, unfolding(crate::specs::Replies::reply_encoding))]
+pub fn encode_reply(alloc: Global, reply: &Reply, shape: Shape) -> Result<Vec<u8>, Memory>
     requires shape { IsShape shape }
     requires fits { ReplyFits shape reply.now }
-    ensures { IfOk result (λ bytes. bytes ≡ reply_spelling shape reply.now) }
+    ensures { IfOk result (λ frame. frame.items ≡ reply_encoding shape reply.now) }
 {
     let fields = put_reply_fields(Vec::new(alloc), reply, shape)?;
-    let frame = frame_of(alloc, tag_of_reply(reply), fields.as_slice())?;
-    Ok(Bytes::of(frame))
+    frame_of(alloc, tag_of_reply(reply), fields.as_slice())
 }

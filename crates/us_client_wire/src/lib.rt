@@ -1,4 +1,4 @@
-//! What clients ask and what they are told, and how frames spell it.
+//! What clients ask and what they are told, and how frames encode it.
 #![tactic(auto)]
 
 mod decode;
@@ -11,5 +11,5 @@ mod tests;
 pub use decode::{decode_reply, decode_request};
 pub use encode::{encode_reply, encode_request};
 pub use frame::{Reply, Request};
-pub use laws::{replies_are_read_as_spelled, requests_are_read_as_spelled};
-pub use us_fields::{DecodeFault, answer_fits, answers_are_as_long, fields_are_read_as_spelled};
+pub use laws::{replies_are_read_as_encoded, requests_are_read_as_encoded};
+pub use us_fields::{DecodeFault, answer_fits, answers_are_as_long, fields_are_read_as_encoded};

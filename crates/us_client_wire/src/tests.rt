@@ -336,7 +336,7 @@ fn other_causes_are_malformed(rt: HostRuntime) -> Result<(), Fail> {
 }
 
 #[test]
-fn what_is_encoded_is_spelled(rt: HostRuntime) -> Result<(), Fail> {
+fn what_is_encoded_is_encoded(rt: HostRuntime) -> Result<(), Fail> {
     let alloc = rt.alloc();
     let committed = encode_request(alloc, &Request::CommitCausal, ALONE)?;
     let bare: &[u8] = &[0, 0, 0, 2, 1, 3];

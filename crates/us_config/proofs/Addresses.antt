@@ -46,7 +46,3 @@ port_is {E = E} port (Err e) plus zeros some h =
     let c = and_parts (leb 1 (digits_value 10 port)) (leb (digits_value 10 port) 65535) b.1 in
     let top : digits_value 10 port ≤ 65535 = leb-true _ _ c.1 in
     p (a.0, long, omega arith)))
-
-pub plus_is_none : (port : List ℕ) → get_or port 0 0 ≡ 43 → is_port port ≡ false
-plus_is_none [] e = absurd (omega arith)
-plus_is_none (c ∷ port) e = rw e refl

@@ -57,7 +57,3 @@ once_more [] space once free = (refl, tt)
 once_more (s ∷ spaces) space once free =
     let both = or_false (s.number == space.number) (is_taken spaces space.number) free in
     (none_behind spaces space s.number once.0 (eq_swapped s.number space.number both.0), once_more spaces space once.1 both.1)
-
-pub once_or_one : (spaces : List Space) → EachSpaceOnce (kinds_of spaces) → EachSpaceOnce (kinds_of (or_one_register spaces))
-once_or_one [] once = (refl, tt)
-once_or_one (s ∷ spaces) once = once

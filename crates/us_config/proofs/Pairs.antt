@@ -4,7 +4,7 @@ use Rattle.toml.specs.Data.{Data, Items, as_array}
 use Rattle.toml.specs.View.{view, items_of}
 use Rattle.toml.specs.declared.value.Value.{Value}
 use Rattle.us_value.specs.declared.operation.Kind.{Kind}
-use Rattle.us_config.specs.Words.{pair_in, pair_for}
+use Rattle.us_config.specs.Keywords.{pair_in, pair_for}
 use Rattle.std.proofs.Common.{Option}
 
 pub no_pair : (kind : Kind) (d : Data) (values : List Value) → (length values ≡ 2 → ⊥) → Some (items_of (map view values)) ≡ as_array d → None ≡ pair_for kind d

@@ -19,7 +19,7 @@ use Rattle.us_config.specs.declared.fault.ReadFault.TheVariants as read
 use Rattle.us_config.specs.declared.node.NodePlan.{NodePlan}
 use Rattle.us_config.specs.declared.space.Space.{Space}
 use Rattle.us_config.specs.declared.config.Config.{Config}
-use Rattle.us_config.specs.Words.{kind_in, pair_for}
+use Rattle.us_config.specs.Keywords.{kind_in, pair_for}
 use Rattle.us_config.specs.Checks.{Finding, unless, first_found, verdict, has_only, unknown_key, list_of, is_within, limit_fault, whole_fault, natural, number_or}
 use Rattle.us_config.specs.Meaning.{is_count_of_sites, shape_fault, shape_of, space_names, is_taken, number_fault, kind_at, kind_fault, pairs_fault, conflicts_fault, pairs_of, conflicts_of, kind_of, table_fault, space_fault, space_of, table_in, each_fault, list_fault, spaces_fault, or_one_register, listed, given, node_names, address_for, are_addresses, array_fault, addresses_fault, addresses_in, addresses_of, is_units, node_table, node_fault, plan_of, top_names, fault_of, document_of}
 use Rattle.us_config.specs.Assembly.{assembled}
@@ -185,9 +185,9 @@ spaces_are (Some d) = listed_is (as_array d)
 
 -- ---- nodes
 
-counted : (key : Key) (sites n : ℕ) (addresses : List (List ℕ)) (b : Bool) → (b ≡ true → length addresses ≡ n) → (verdict (unless b key WrongValue) addresses >>= one_a_site key sites) ≡ verdict (unless (b && (n == sites)) key WrongValue) addresses
-counted key sites n addresses true h = rw (h refl) (tested (n == sites) key WrongValue addresses)
-counted key sites n addresses false h = refl
+with_right_length : (key : Key) (sites n : ℕ) (addresses : List (List ℕ)) (b : Bool) → (b ≡ true → length addresses ≡ n) → (verdict (unless b key WrongValue) addresses >>= one_a_site key sites) ≡ verdict (unless (b && (n == sites)) key WrongValue) addresses
+with_right_length key sites n addresses true h = rw (h refl) (tested (n == sites) key WrongValue addresses)
+with_right_length key sites n addresses false h = refl
 
 array_is : (key : Key) (sites : ℕ) (o : Option Items) → node.listed key sites o ≡ verdict (array_fault key sites o) (addresses_in o)
 array_is key sites None = refl
@@ -195,7 +195,7 @@ array_is key sites (Some items) =
     let ds = list_of items in
     let each = list_all (λ (d : Data). is_some (address_for d)) ds in
     ap (λ (r : Result (List (List ℕ)) ReadFault). r >>= one_a_site key sites) (all_are items key address_for [])
-    ∙ counted key sites (length ds) (filter_map address_for ds) each (all_count ds address_for)
+    ∙ with_right_length key sites (length ds) (filter_map address_for ds) each (all_count ds address_for)
 
 addresses_are : (key : Key) (port sites : ℕ) (o : Option Data) → addresses_or key port sites o ≡ verdict (addresses_fault key sites o) (addresses_of port sites o)
 addresses_are key port sites None = refl
@@ -263,7 +263,3 @@ read_is (Some ms) = config_is ms
 -- a text whose table was read says what the table says
 pub table_says : (text : List ℕ) (ms : Members) → or_not_toml (document_of text) ≡ Ok ms → config_said text ≡ config_in ms
 table_says text ms e = sym (read_is (document_of text)) ∙ ap (λ (r : Result Members ReadFault). r >>= config_in) e
-
--- a text that is no TOML is refused as that
-pub text_says : (text : List ℕ) (key : Key) (fault : ConfigFault) → or_not_toml (document_of text) ≡ Err (read.Refused key fault) → config_said text ≡ Err (read.Refused key fault)
-text_says text key fault e = sym (read_is (document_of text)) ∙ ap (λ (r : Result Members ReadFault). r >>= config_in) e

@@ -1,7 +1,8 @@
 -- How keys and faults are printed.
 use Rattle.std.specs.Prelude.{ℕ, List, codes}
 use Rattle.us_config.specs.declared.fault.Key.{Key}
-use Rattle.us_config.specs.declared.fault.Key.TheVariants.{Top, Sites, Partitions, Space, SpaceNumber, SpaceKind, SpaceConflicts, Node, NodePeers, NodeClients, NodeTick, NodeSuspect}
+use Rattle.us_config.specs.declared.fault.Key.TheVariants.{Top, Sites, Partitions, Space, SpaceNumber, SpaceKind, SpaceConflicts, Node, NodePeers}
+use Rattle.us_config.specs.declared.fault.Key.TheVariants.{NodeClients, NodeTick, NodeSuspect}
 use Rattle.us_config.specs.declared.fault.ConfigFault.{ConfigFault}
 use Rattle.us_config.specs.declared.fault.ConfigFault.TheVariants.{NotToml, WrongKey, WrongValue, OutOfLimit}
 

@@ -1,6 +1,6 @@
 pub mod Fault
 pub mod Address
-pub mod Words
+pub mod Keywords
 pub mod Checks
 pub mod Meaning
 pub mod Values

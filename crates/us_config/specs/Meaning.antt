@@ -1,5 +1,6 @@
 -- What a configuration says, key by key: what it means, and the faults in it.
-use Rattle.std.specs.Prelude.{ℕ, zero, suc, ℤ, ◌+◌, ◌/◌, ◌==◌, not, ◌&&◌, Bool, true, false, if◌then◌else◌, List, [], ◌∷◌, ◌++◌, length, map, codes, Option, Some, None, is_some, unwrap_or}
+use Rattle.std.specs.Prelude.{ℕ, zero, suc, ℤ, ◌+◌, ◌/◌, ◌==◌, not, ◌&&◌, Bool, true, false, if◌then◌else◌, List, [], ◌∷◌, ◌++◌, length, map, codes}
+use Rattle.std.specs.Prelude.{Option, Some, None, is_some, unwrap_or}
 use Rattle.std.specs.List.{list_any, list_all, filter_map}
 use Rattle.std.specs.Fmt.{decimal}
 use Rattle.std.specs.Str.{is_utf8}
@@ -16,8 +17,9 @@ use Rattle.us_config.specs.declared.fault.ConfigFault.TheVariants.{WrongValue}
 use Rattle.us_config.specs.declared.node.NodePlan.{NodePlan}
 use Rattle.us_config.specs.declared.space.Space.{Space}
 use Rattle.us_config.specs.Address.{is_address_text}
-use Rattle.us_config.specs.Checks.{Finding, found, unless, first_found, unknown_key, list_of, is_within, is_odd, limit_fault, whole_fault, natural, number_or}
-use Rattle.us_config.specs.Words.{kind_in, pair_for}
+use Rattle.us_config.specs.Checks.{Finding, found, unless, first_found, unknown_key, list_of, is_within, is_odd, limit_fault, whole_fault, natural}
+use Rattle.us_config.specs.Checks.{number_or}
+use Rattle.us_config.specs.Keywords.{kind_in, pair_for}
 
 -- ---- sites and partitions
 

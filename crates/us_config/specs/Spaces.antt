@@ -8,7 +8,7 @@ use Rattle.us_config.specs.declared.fault.ConfigFault.TheVariants.{WrongValue}
 use Rattle.us_config.specs.declared.fault.ReadFault.{ReadFault}
 use Rattle.us_config.specs.declared.fault.ReadFault.TheVariants as read
 use Rattle.us_config.specs.declared.space.Space.{Space}
-use Rattle.us_config.specs.Words.{kind_in, pair_for}
+use Rattle.us_config.specs.Keywords.{kind_in, pair_for}
 use Rattle.us_config.specs.Meaning.{space_names, is_taken, or_one_register}
 use Rattle.us_config.specs.Values.{◌>>=◌, only, whole_of, or_wrong, gathered, each_by}
 

@@ -35,19 +35,19 @@ pub struct Config {
 
 impl Config {
     /// A copy of the configuration.
-    pub fn copy(&self, alloc: Global) -> Result<Config, Memory>
+    pub fn copy(&self) -> Result<Config, Memory>
         ensures { IfOk result (λ copy. copy ≡ self.now) }
     {
         Ok(Config {
             shape: self.shape,
             catalog: self.catalog.copy()?,
             conflicts: self.conflicts.copy()?,
-            plan: self.plan.copy(alloc)?,
+            plan: self.plan.copy()?,
         })
     }
 
     /// What the node of a site, from 1, is to link with. There are that many clients' addresses.
-    pub fn plan_for(&self, alloc: Global, site: u8) -> Result<Plan, Memory>
+    pub fn plan_for(&self, site: u8) -> Result<Plan, Memory>
         requires first { 1 ≤ site }
         requires clients { site ≤ length self.now.plan.clients }
         ensures site { IfOk result (λ plan. plan.site ≡ site) }
@@ -58,7 +58,7 @@ impl Config {
         Ok(Plan {
             site,
             clients: clients.copy()?,
-            peers: copy_of_texts(alloc, self.plan.peers.as_slice())?,
+            peers: copy_of_texts(&self.plan.peers)?,
         })
     }
 }

@@ -6,13 +6,13 @@ mod assembly;
 mod config;
 mod document;
 mod fault;
+mod keywords;
 mod laws;
 mod node;
 mod shape;
 mod space;
 mod tables;
 mod values;
-mod words;
 
 pub use address::is_address;
 pub use config::{Config, read};

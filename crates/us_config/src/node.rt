@@ -30,12 +30,12 @@ pub struct NodePlan {
 
 impl NodePlan {
     /// A copy of the plan.
-    pub fn copy(&self, alloc: Global) -> Result<NodePlan, Memory>
+    pub fn copy(&self) -> Result<NodePlan, Memory>
         ensures { IfOk result (λ copy. copy ≡ self.now) }
     {
         Ok(NodePlan {
-            peers: copy_of_texts(alloc, self.peers.as_slice())?,
-            clients: copy_of_texts(alloc, self.clients.as_slice())?,
+            peers: copy_of_texts(&self.peers)?,
+            clients: copy_of_texts(&self.clients)?,
             tick: self.tick,
             suspect: self.suspect,
         })
@@ -43,11 +43,11 @@ impl NodePlan {
 }
 
 /// A copy of the texts.
-pub fn copy_of_texts(alloc: Global, texts: &[Text]) -> Result<Items<Text>, Memory>
+pub fn copy_of_texts(texts: &Items<Text>) -> Result<Items<Text>, Memory>
     ensures { IfOk result (λ copy. copy ≡ texts.now) }
 {
-    let mut copy = Items::new(alloc);
-    for text in texts {
+    let mut copy = Items::new(texts.allocator());
+    for text in texts.as_slice() {
         copy.push(text.copy()?)?;
     }
     Ok(copy)

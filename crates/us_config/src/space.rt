@@ -3,15 +3,15 @@ ghost use Rattle.toml.specs.Data.{as_str};
 ghost use Rattle.toml.specs.View.{view, table_view, array_view};
 ghost use Rattle.us_value.specs.Catalogs.{EachSpaceOnce};
 ghost use Rattle.us_config.specs.Assembly.{kinds_of};
-ghost use Rattle.us_config.specs.Words.{kind_in, class_for, pair_for};
+ghost use Rattle.us_config.specs.Keywords.{kind_in, class_for, pair_for};
 ghost use Rattle.us_config.specs.Meaning.{is_taken, or_one_register};
 ghost use Rattle.us_config.specs.Values.{Says, gathered, each_by};
 ghost use Rattle.us_config.specs.Spaces.{number_said, kind_said, conflicts_said, space_in, space_step, spaces_said};
 
 use crate::fault::{Key, ReadFault, wrong_value};
+use crate::keywords::{class_named, kind_named};
 use crate::tables::{check_keys, member_at};
 use crate::values::{Range, whole_in};
-use crate::words::{class_named, kind_named};
 use std::alloc::Global;
 use toml::value::Array;
 use toml::{Table, Value};

@@ -76,7 +76,7 @@ fn conflicts_told(alloc: Global, config: &Config, space: u8) -> Result<String, F
 /// The f, partitions and spaces of a text, or its fault.
 fn told(alloc: Global, text: &str) -> Result<String, Fail> {
     let config = match read(alloc, text.as_bytes()) {
-        Ok(config) => config.copy(alloc)?,
+        Ok(config) => config.copy()?,
         Err(fault) => return Ok(fault.to_string(alloc)?),
     };
     let (f, parts) = (config.shape.f, config.shape.parts);
@@ -272,7 +272,7 @@ fn first_faults(rt: HostRuntime) -> Result<(), Fail> {
 
 /// The number of peers, the first of them, the last client, the tick and the suspicion of a text's nodes.
 fn plan_text(alloc: Global, text: &str) -> Result<String, Fail> {
-    let plan = read(alloc, text.as_bytes())?.plan.copy(alloc)?;
+    let plan = read(alloc, text.as_bytes())?.plan.copy()?;
     let peer = plan.peers.as_slice().first().ok_or("no peer")?;
     let client = plan.clients.as_slice().last().ok_or("no client")?;
     let (count, peer, client) = (plan.peers.len(), peer.as_str(), client.as_str());
@@ -306,7 +306,7 @@ fn plan_of_a_site(rt: HostRuntime) -> Result<(), Fail> {
     let config = read(rt.alloc(), text.as_bytes())?;
     let clients = config.plan.clients.as_slice().len();
     assert_eq!(rt; clients, 3);
-    let plan = config.plan_for(rt.alloc(), 2)?;
+    let plan = config.plan_for(2)?;
     assert_eq!(rt; plan.site, 2);
     assert_eq!(rt; plan.clients.as_str(), "127.0.0.1:7202");
     assert_eq!(rt; plan.peers.len(), 3);

@@ -7,13 +7,13 @@ pub appended-nil : (written : Option (List ℕ)) → appended written [] ≡ wri
 appended-nil None = refl
 appended-nil (Some written) = ap Some (append-nil written)
 
-pub appended-appended : (written : Option (List ℕ)) (front back : List ℕ) → appended (appended written front) back ≡ appended written (front ++ back)
-appended-appended None front back = refl
-appended-appended (Some written) front back = ap Some (append_assoc written front back)
+pub appended-appended : (written : Option (List ℕ)) (prefix back : List ℕ) → appended (appended written prefix) back ≡ appended written (prefix ++ back)
+appended-appended None prefix back = refl
+appended-appended (Some written) prefix back = ap Some (append_assoc written prefix back)
 
-pub prepended-prepended : (left : Option (List ℕ)) (front back : List ℕ) → prepended front (prepended back left) ≡ prepended (front ++ back) left
-prepended-prepended None front back = refl
-prepended-prepended (Some left) front back = ap Some (sym (append_assoc front back left))
+pub prepended-prepended : (left : Option (List ℕ)) (prefix back : List ℕ) → prepended prefix (prepended back left) ≡ prepended (prefix ++ back) left
+prepended-prepended None prefix back = refl
+prepended-prepended (Some left) prefix back = ap Some (sym (append_assoc prefix back left))
 
 pub prepended-nil : (left : Option (List ℕ)) → left ≡ prepended [] left
 prepended-nil None = refl
@@ -24,35 +24,31 @@ pub Appends-nothing : (written : Option (List ℕ)) → Appends written written 
 Appends-nothing written = sym (appended-nil written)
 
 -- one text and then the other
-pub Appends-then : (before between after : Option (List ℕ)) (front back : List ℕ) → Appends before between front → Appends between after back → Appends before after (front ++ back)
-Appends-then before between after front back one other =
-    other ∙ ap (λ (written : Option (List ℕ)). appended written back) one ∙ appended-appended before front back
+pub Appends-then : (before between after : Option (List ℕ)) (prefix back : List ℕ) → Appends before between prefix → Appends between after back → Appends before after (prefix ++ back)
+Appends-then before between after prefix back one other =
+    other ∙ ap (λ (written : Option (List ℕ)). appended written back) one ∙ appended-appended before prefix back
 
 -- the source gave one text and then the other
-pub Gives-then : (before between after : Option (List ℕ)) (front back : List ℕ) → Gives before between front → Gives between after back → Gives before after (front ++ back)
-Gives-then before between after front back one other =
-    one ∙ ap (λ (left : Option (List ℕ)). prepended front left) other ∙ prepended-prepended after front back
+pub Gives-then : (before between after : Option (List ℕ)) (prefix back : List ℕ) → Gives before between prefix → Gives between after back → Gives before after (prefix ++ back)
+Gives-then before between after prefix back one other =
+    one ∙ ap (λ (left : Option (List ℕ)). prepended prefix left) other ∙ prepended-prepended after prefix back
 
--- what was written whole is a front of a text that goes on
-pub AppendsPrefix-whole : (before after : Option (List ℕ)) (text more : List ℕ) → Appends before after text → AppendsPrefix before after (text ++ more)
-AppendsPrefix-whole before after text more written = record { front = text; rest = more; whole = refl; written = written }
-
--- a front of a text is a front of one that goes on
+-- a prefix of a text is a prefix of one that goes on
 pub AppendsPrefix-more : (before after : Option (List ℕ)) (text more : List ℕ) → AppendsPrefix before after text → AppendsPrefix before after (text ++ more)
 AppendsPrefix-more before after text more part = record {
-  front = part.front;
+  prefix = part.prefix;
   rest = part.rest ++ more;
-  whole = ap (λ (xs : List ℕ). xs ++ more) part.whole ∙ append_assoc part.front part.rest more;
+  whole = ap (λ (xs : List ℕ). xs ++ more) part.whole ∙ append_assoc part.prefix part.rest more;
   written = part.written;
 }
 
--- one text whole, and a front of the next
+-- one text whole, and a prefix of the next
 pub AppendsPrefix-then : (before between after : Option (List ℕ)) (text next : List ℕ) → Appends before between text → AppendsPrefix between after next → AppendsPrefix before after (text ++ next)
 AppendsPrefix-then before between after text next written part = record {
-  front = text ++ part.front;
+  prefix = text ++ part.prefix;
   rest = part.rest;
-  whole = ap (λ (xs : List ℕ). text ++ xs) part.whole ∙ sym (append_assoc text part.front part.rest);
-  written = Appends-then before between after text part.front written part.written;
+  whole = ap (λ (xs : List ℕ). text ++ xs) part.whole ∙ sym (append_assoc text part.prefix part.rest);
+  written = Appends-then before between after text part.prefix written part.written;
 }
 
 -- the source gave nothing

@@ -11,20 +11,20 @@ use Rattle.us_edge.specs.declared.links.LinkInput.{LinkInput}
 use Rattle.us_edge.specs.declared.links.LinkInput.TheVariants.{Opened}
 
 -- a number as it stands in a list for the first time, and the numbers around it
-record Found (x : ℕ) (ys : List ℕ) : Type 0 where
+record Occurrence (x : ℕ) (ys : List ℕ) : Type 0 where
   front : List ℕ
   back : List ℕ
   is : ys ≡ front ++ x ∷ back
 
-find : (x : ℕ) (ys : List ℕ) → 1 ≤ count_by (λ j. j == x) ys → Found x ys
+find : (x : ℕ) (ys : List ℕ) → 1 ≤ count_by (λ j. j == x) ys → Occurrence x ys
 find x [] h = absurd (omega (arith, h))
 find x (y ∷ ys) h = ⊎_elim here (later (find x ys)) (eqb_tells y x) where
-  here : (y == x ≡ true) × (y ≡ x) → Found x (y ∷ ys)
+  here : (y == x ≡ true) × (y ≡ x) → Occurrence x (y ∷ ys)
   here e = record { front = []; back = ys; is = ap (λ (z : ℕ). z ∷ ys) e.1 }
 
-  later : (1 ≤ count_by (λ j. j == x) ys → Found x ys) → (y == x ≡ false) × (y ≢ x) → Found x (y ∷ ys)
+  later : (1 ≤ count_by (λ j. j == x) ys → Occurrence x ys) → (y == x ≡ false) × (y ≢ x) → Occurrence x (y ∷ ys)
   later others e =
-      let rest : Found x ys = others (omega (arith, h, sum_by-cons (λ j. cond (j == x) 1 0) y ys, ap (λ (b : Bool). cond {A = ℕ} b 1 0) e.0)) in
+      let rest : Occurrence x ys = others (omega (arith, h, sum_by-cons (λ j. cond (j == x) 1 0) y ys, ap (λ (b : Bool). cond {A = ℕ} b 1 0) e.0)) in
       record { front = y ∷ rest.front; back = rest.back; is = ap (λ (zs : List ℕ). y ∷ zs) rest.is }
 
 -- how often a number stands in a list around another
@@ -36,7 +36,7 @@ count-around k x front back =
 counts-length : {X : Type 0} (number : X → ℕ) (xs : List X) (ys : List ℕ) → ((k : ℕ) → count_by (λ x. number x == k) xs ≤ count_by (λ j. j == k) ys) → length xs ≤ length ys
 counts-length number [] ys h = omega arith
 counts-length number (x ∷ xs) ys h = taken (counts-length number xs) where
-  found : Found (number x) ys
+  found : Occurrence (number x) ys
   found = find (number x) ys (omega (arith, h (number x), sum_by-cons (λ y. cond (number y == number x) 1 0) x xs, ap (λ (b : Bool). cond {A = ℕ} b 1 0) (eq-eqb (number x) (number x) refl)))
 
   below : (k : ℕ) → count_by (λ y. number y == k) xs ≤ count_by (λ j. j == k) (found.front ++ found.back)

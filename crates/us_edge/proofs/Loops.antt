@@ -6,31 +6,31 @@ use Rattle.us_edge.specs.Faults.{Rose}
 use Rattle.us_edge.specs.Streams.{Appends, AppendsPrefix, Gives, GivesMoreThan, GivesSome}
 use Rattle.us_edge.proofs.Appending.{Appends-nothing, Appends-then, Gives-then}
 
--- a front of the bytes was written, and the rest is still to be
+-- a prefix of the bytes was written, and the rest is still to be
 pub record IsWrittenUpTo (before now : Option (List ℕ)) (bytes rest : List ℕ) : Type 0 where
-  pub front : List ℕ
-  pub whole : bytes ≡ front ++ rest
-  pub written : Appends before now front
+  pub prefix : List ℕ
+  pub whole : bytes ≡ prefix ++ rest
+  pub written : Appends before now prefix
 
 pub begins : (before : Option (List ℕ)) (bytes : List ℕ) → IsWrittenUpTo before before bytes bytes
-begins before bytes = record { front = []; whole = refl; written = Appends-nothing before }
+begins before bytes = record { prefix = []; whole = refl; written = Appends-nothing before }
 
 pub goes_on : (before now after : Option (List ℕ)) (bytes rest : List ℕ) (n : ℕ) → IsWrittenUpTo before now bytes rest → Appends now after (take n rest)
     → IsWrittenUpTo before after bytes (take (length rest - n) (drop n rest))
 goes_on before now after bytes rest n so_far written =
     let left : take (length rest - n) (drop n rest) ≡ drop n rest = between_to_end rest n (length rest) (omega arith) in
     rw left (record {
-      front = so_far.front ++ take n rest;
-      whole = so_far.whole ∙ ap (λ (xs : List ℕ). so_far.front ++ xs) (sym (take-append-drop n rest)) ∙ sym (append_assoc so_far.front (take n rest) (drop n rest));
-      written = Appends-then before now after so_far.front (take n rest) so_far.written written;
+      prefix = so_far.prefix ++ take n rest;
+      whole = so_far.whole ∙ ap (λ (xs : List ℕ). so_far.prefix ++ xs) (sym (take-append-drop n rest)) ∙ sym (append_assoc so_far.prefix (take n rest) (drop n rest));
+      written = Appends-then before now after so_far.prefix (take n rest) so_far.written written;
     })
 
 pub stops : (before now after : Option (List ℕ)) (bytes rest : List ℕ) → IsWrittenUpTo before now bytes rest → after ≡ now → AppendsPrefix before after bytes
-stops before now after bytes rest so_far same = record { front = so_far.front; rest = rest; whole = so_far.whole; written = same ∙ so_far.written }
+stops before now after bytes rest so_far same = record { prefix = so_far.prefix; rest = rest; whole = so_far.whole; written = same ∙ so_far.written }
 
 pub ends : (before now : Option (List ℕ)) (bytes rest : List ℕ) → IsWrittenUpTo before now bytes rest → length rest ≡ 0 → Appends before now bytes
 ends before now bytes rest so_far none =
-    let all : bytes ≡ so_far.front = so_far.whole ∙ ap (λ (xs : List ℕ). so_far.front ++ xs) (nil_from_length rest none) ∙ append-nil so_far.front in
+    let all : bytes ≡ so_far.prefix = so_far.whole ∙ ap (λ (xs : List ℕ). so_far.prefix ++ xs) (nil_from_length rest none) ∙ append-nil so_far.prefix in
     subst (λ (xs : List ℕ). Appends before now xs) (sym all) so_far.written
 
 pub reads_on : (before now after : Option (List ℕ)) (bytes buffer piece kept : List ℕ) (n : ℕ) → Gives before now bytes → Gives now after (take n buffer) → piece ≡ take n buffer → kept ≡ bytes ++ piece → Gives before after kept

@@ -85,4 +85,6 @@ offered_to_peer site (Peer other bytes ∷ offers) = if other == site then bytes
 -- the connection was dropped, after so many bytes had been offered to it, where this is told
 abbrev pub Drops : Option Connections → Option Connections → Option (List Offer) → ℕ → Type 0
 Drops None after offered conn = after ≡ None
-Drops (Some known) after offered conn = (before : ℕ) × (after ≡ Some (record { opened = known.opened; dropped = known.dropped ++ record { conn = conn; before = before } ∷ [] })) × IfSome offered (λ offers. before ≡ length (offered_to conn offers))
+Drops (Some known) after offered conn = (before : ℕ)
+    × (after ≡ Some (record { opened = known.opened; dropped = known.dropped ++ record { conn = conn; before = before } ∷ [] }))
+    × IfSome offered (λ offers. before ≡ length (offered_to conn offers))

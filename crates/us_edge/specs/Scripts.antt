@@ -3,12 +3,12 @@ use Rattle.std.specs.Prelude.{ℕ, ◌+◌, ◌-◌, ◌^◌, min, ◌==◌, Boo
 use Rattle.std.specs.List.{list_any}
 
 -- one more, up to the end of the type
-abbrev pub counted : ℕ → ℕ
-counted n = min (n + 1) (2 ^ 64 - 1)
+abbrev pub saturating_suc : ℕ → ℕ
+saturating_suc n = min (n + 1) (2 ^ 64 - 1)
 
 -- the next call after so many is one that is to fail; calls are numbered from 1
 abbrev pub is_to_fail : List ℕ → ℕ → Bool
-is_to_fail fails calls = list_any (λ n. n == counted calls) fails
+is_to_fail fails calls = list_any (λ n. n == saturating_suc calls) fails
 
 -- a source in memory: the bytes left, how many it gives at a time, which calls fail, and how many calls and faults there were
 pub record Source : Type 0 where

@@ -15,12 +15,12 @@ prepended text (Some left) = Some (text ++ left)
 abbrev pub Appends : Option (List ℕ) → Option (List ℕ) → List ℕ → Type 0
 Appends before after text = after ≡ appended before text
 
--- a front of the text was written, where the sink tells; whether it tells stays
+-- a prefix of the text was written, where the sink tells; whether it tells stays
 pub record AppendsPrefix (before after : Option (List ℕ)) (text : List ℕ) : Type 0 where
-  pub front : List ℕ
+  pub prefix : List ℕ
   pub rest : List ℕ
-  pub whole : text ≡ front ++ rest
-  pub written : Appends before after front
+  pub whole : text ≡ prefix ++ rest
+  pub written : Appends before after prefix
 
 -- the source gave exactly the text, where it tells; whether it tells stays
 abbrev pub Gives : Option (List ℕ) → Option (List ℕ) → List ℕ → Type 0

@@ -1,5 +1,5 @@
 ghost use Rattle.std.specs.Prelude.{◌≡◌, is_err, if◌then◌else◌};
-ghost use Rattle.us_edge.specs.Scripts.{counted, is_to_fail};
+ghost use Rattle.us_edge.specs.Scripts.{saturating_suc, is_to_fail};
 
 use crate::Failed;
 
@@ -29,7 +29,7 @@ impl Calls {
     pub fn begin(&mut self) -> bool
         ensures to_fail { result ≡ is_to_fail self.old.fails.items self.old.made }
         ensures fails { self.new.fails ≡ self.old.fails }
-        ensures made { self.new.made ≡ counted self.old.made }
+        ensures made { self.new.made ≡ saturating_suc self.old.made }
         ensures faults { self.new.faults ≡ self.old.faults }
     {
         self.made = self.made.saturating_add(1);
@@ -39,9 +39,9 @@ impl Calls {
     /// Counts a call, and a fault where it is to fail.
     pub fn count(&mut self) -> Result<(), Failed>
         ensures fails { self.new.fails ≡ self.old.fails }
-        ensures made { self.new.made ≡ counted self.old.made }
+        ensures made { self.new.made ≡ saturating_suc self.old.made }
         ensures failed { is_err result ≡ is_to_fail self.old.fails.items self.old.made }
-        ensures faults { self.new.faults ≡ (if is_err result then counted self.old.faults else self.old.faults) }
+        ensures faults { self.new.faults ≡ (if is_err result then saturating_suc self.old.faults else self.old.faults) }
     {
         if self.begin() {
             self.count_fault();
@@ -54,7 +54,7 @@ impl Calls {
     pub fn count_fault(&mut self)
         ensures fails { self.new.fails ≡ self.old.fails }
         ensures made { self.new.made ≡ self.old.made }
-        ensures faults { self.new.faults ≡ counted self.old.faults }
+        ensures faults { self.new.faults ≡ saturating_suc self.old.faults }
     {
         self.faults = self.faults.saturating_add(1);
     }

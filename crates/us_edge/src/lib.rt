@@ -8,13 +8,13 @@
 mod calls;
 mod clock;
 mod faults;
-mod kept;
 mod links;
 mod list_clock;
 mod memory_links;
 mod memory_sink;
 mod memory_source;
 mod reading;
+mod recording;
 mod sink;
 mod source;
 mod sure;

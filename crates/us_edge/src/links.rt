@@ -2,7 +2,6 @@ ghost use Rattle.std.specs.Prelude.{◌≡◌, ◌≤◌, ℕ, List, Option, Som
 ghost use Rattle.us_edge.specs.Faults.{Rose};
 
 use crate::{Failed, PollFault, StartFault, Text};
-use std::alloc::Global;
 use us_kind::{Bytes, Items, Memory};
 
 /// What a node is to link with: its own site, the address at which its clients come, and the addresses of
@@ -83,10 +82,10 @@ impl LinkInput {
 
 impl Plan {
     /// A copy of the plan.
-    pub fn copy(&self, alloc: Global) -> Result<Plan, Memory>
+    pub fn copy(&self) -> Result<Plan, Memory>
         ensures { IfOk result (λ copy. copy ≡ self.now) }
     {
-        let mut peers = Items::new(alloc);
+        let mut peers = Items::new(self.peers.allocator());
         for peer in self.peers.as_slice() {
             peers.push(peer.copy()?)?;
         }

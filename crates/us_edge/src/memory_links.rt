@@ -1,11 +1,11 @@
 ghost use Rattle.std.specs.Prelude.{◌≡◌, ◌≤◌, ◌↔◌, ◌∷◌, ◌++◌, [], IfOk, OnOk, OnErr, All, Some, None, MatchOption, IfSome, IsSome, IsTrue, true, false, length, is_err, if◌then◌else◌};
 ghost use Rattle.us_edge.specs.Faults.{Rose};
 ghost use Rattle.us_edge.specs.Links.{HasPiece, Polls, recorded, RecordsOrForgets, opened_by, connections_after, offered_to, IsOpen, AreDropsOfOpened, Drops};
-ghost use Rattle.us_edge.specs.MemoryLinks.{KeepsFailed, next_of, with_outcome, with_send, offers_of, outcomes_of};
-ghost use Rattle.us_edge.specs.Scripts.{counted, is_to_fail};
+ghost use Rattle.us_edge.specs.MemoryLinks.{RecordsFailed, next_of, with_outcome, with_send, offers_of, outcomes_of};
+ghost use Rattle.us_edge.specs.Scripts.{saturating_suc, is_to_fail};
 
 use crate::calls::Calls;
-use crate::kept::Kept;
+use crate::recording::Recording;
 use crate::{Dropped, Failed, LinkInput, Links, Offer, Outcome, Plan, PollFault, StartFault};
 use std::alloc::Global;
 use std::collections::VecDeque;
@@ -21,7 +21,7 @@ pub struct MemoryLinks {
     plan: Option<Plan>,
     calls: Calls,
     // None once a send found no memory.
-    kept: Option<Kept>,
+    kept: Option<Recording>,
     opened: Vec<u64>,
     // It has room for a drop of each connection.
     dropped: Vec<Dropped>,
@@ -50,7 +50,7 @@ impl MemoryLinks {
             inputs: VecDeque::from_vec(inputs),
             plan: None,
             calls: Calls::new(fails),
-            kept: Some(Kept::new(alloc)),
+            kept: Some(Recording::new(alloc)),
             opened: Vec::new(alloc),
             dropped: Vec::new(alloc),
         }
@@ -105,7 +105,7 @@ impl MemoryLinks {
     // Ends a call, and counts a fault where it failed.
     fn ended(&mut self, failed: bool) -> Result<(), Failed>
         ensures outcome { is_err result ≡ failed }
-        ensures counted { self.new ≡ record self.old { faults = if failed then counted self.old.faults else self.old.faults } }
+        ensures fault_counted { self.new ≡ record self.old { faults = if failed then saturating_suc self.old.faults else self.old.faults } }
     {
         if failed {
             self.calls.count_fault();
@@ -150,7 +150,7 @@ impl MemoryLinks {
 }
 
 // Keeps how a call ended, where this is told.
-fn keep(kept: &mut Option<Kept>, outcome: Outcome) -> Result<(), Memory>
+fn keep(kept: &mut Option<Recording>, outcome: Outcome) -> Result<(), Memory>
     ensures ok { OnOk result (kept.new ≡ with_outcome kept.old outcome) }
     ensures err { OnErr result (kept.new ≡ kept.old) }
 {
@@ -186,15 +186,15 @@ impl Links for MemoryLinks {
 
         // It fails as it is told.
         ensures failed { (result ≡ Err StartFault.Failed) ↔ IsTrue (is_to_fail self.old.fails self.old.calls) }
-        ensures script { (self.new.fails ≡ self.old.fails) × (self.new.calls ≡ counted self.old.calls) }
-        ensures faults { self.new.faults ≡ (if is_to_fail self.old.fails self.old.calls then counted self.old.faults else self.old.faults) }
+        ensures script { (self.new.fails ≡ self.old.fails) × (self.new.calls ≡ saturating_suc self.old.calls) }
+        ensures faults { self.new.faults ≡ (if is_to_fail self.old.fails self.old.calls then saturating_suc self.old.faults else self.old.faults) }
     {
         self.plan = None;
         if self.calls.begin() {
             self.calls.count_fault();
             return Err(StartFault::Failed);
         }
-        self.plan = Some(plan.copy(*self.opened.allocator())?);
+        self.plan = Some(plan.copy()?);
         Ok(())
     }
 
@@ -217,8 +217,8 @@ impl Links for MemoryLinks {
         // It fails as it is told.
         ensures failed_as_told { result ≡ Err PollFault.Failed → IsTrue (is_to_fail self.old.fails self.old.calls) }
         ensures fails_as_told { IsTrue (is_to_fail self.old.fails self.old.calls) → is_err result ≡ true }
-        ensures script { (self.new.fails ≡ self.old.fails) × (self.new.calls ≡ counted self.old.calls) }
-        ensures fault { result ≡ Err PollFault.Failed → self.new.faults ≡ counted self.old.faults }
+        ensures script { (self.new.fails ≡ self.old.fails) × (self.new.calls ≡ saturating_suc self.old.calls) }
+        ensures fault { result ≡ Err PollFault.Failed → self.new.faults ≡ saturating_suc self.old.faults }
         ensures no_fault { OnOk result (self.new.faults ≡ self.old.faults) }
         ensures memory_is_no_fault { result ≡ Err PollFault.Memory → self.new.faults ≡ self.old.faults }
     {
@@ -247,9 +247,9 @@ impl Links for MemoryLinks {
 
         // It fails as it is told, and then it keeps the bytes.
         ensures fails_as_told { IsTrue (is_to_fail self.old.fails self.old.calls) → is_err result ≡ true }
-        ensures lost { OnErr result (KeepsFailed self.old self.new (Offer.Client conn piece.now) (Outcome.ClientSent conn true)) }
-        ensures script { (self.new.fails ≡ self.old.fails) × (self.new.calls ≡ counted self.old.calls) }
-        ensures faults { self.new.faults ≡ (if is_err result then counted self.old.faults else self.old.faults) }
+        ensures lost { OnErr result (RecordsFailed self.old self.new (Offer.Client conn piece.now) (Outcome.ClientSent conn true)) }
+        ensures script { (self.new.fails ≡ self.old.fails) × (self.new.calls ≡ saturating_suc self.old.calls) }
+        ensures faults { self.new.faults ≡ (if is_err result then saturating_suc self.old.faults else self.old.faults) }
     {
         let failed = self.calls.begin();
         match client_kept(self.kept.take(), conn, piece, failed) {
@@ -276,9 +276,9 @@ impl Links for MemoryLinks {
 
         // It fails as it is told, and then it keeps the bytes.
         ensures fails_as_told { IsTrue (is_to_fail self.old.fails self.old.calls) → is_err result ≡ true }
-        ensures lost { OnErr result (KeepsFailed self.old self.new (Offer.Peer site piece.now) (Outcome.PeerSent site true)) }
-        ensures script { (self.new.fails ≡ self.old.fails) × (self.new.calls ≡ counted self.old.calls) }
-        ensures faults { self.new.faults ≡ (if is_err result then counted self.old.faults else self.old.faults) }
+        ensures lost { OnErr result (RecordsFailed self.old self.new (Offer.Peer site piece.now) (Outcome.PeerSent site true)) }
+        ensures script { (self.new.fails ≡ self.old.fails) × (self.new.calls ≡ saturating_suc self.old.calls) }
+        ensures faults { self.new.faults ≡ (if is_err result then saturating_suc self.old.faults else self.old.faults) }
     {
         let failed = self.calls.begin();
         match peer_kept(self.kept.take(), site, piece, failed) {
@@ -311,11 +311,11 @@ impl Links for MemoryLinks {
 
 // Keeps a send to a client, where sends are told.
 fn client_kept(
-    kept: Option<Kept>,
+    kept: Option<Recording>,
     conn: u64,
     piece: &[u8],
     failed: bool,
-) -> Result<Option<Kept>, Memory>
+) -> Result<Option<Recording>, Memory>
     ensures { IfOk result (λ now. now ≡ with_send kept (Offer.Client conn piece.now) (Outcome.ClientSent conn failed)) }
 {
     match kept {
@@ -326,11 +326,11 @@ fn client_kept(
 
 // Keeps a send to another site, where sends are told.
 fn peer_kept(
-    kept: Option<Kept>,
+    kept: Option<Recording>,
     site: u8,
     piece: &[u8],
     failed: bool,
-) -> Result<Option<Kept>, Memory>
+) -> Result<Option<Recording>, Memory>
     ensures { IfOk result (λ now. now ≡ with_send kept (Offer.Peer site piece.now) (Outcome.PeerSent site failed)) }
 {
     match kept {

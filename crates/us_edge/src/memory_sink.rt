@@ -1,7 +1,7 @@
 ghost use Rattle.std.specs.Prelude.{◌≡◌, ◌<◌, ◌≤◌, Some, IfOk, OnErr, [], if◌then◌else◌, is_err, IsTrue, true, length, take, min};
 ghost use Rattle.us_edge.specs.Faults.{Rose};
 ghost use Rattle.us_edge.specs.Streams.{Appends};
-ghost use Rattle.us_edge.specs.Scripts.{counted, is_to_fail};
+ghost use Rattle.us_edge.specs.Scripts.{saturating_suc, is_to_fail};
 
 use crate::calls::Calls;
 use crate::{Failed, Sink};
@@ -68,8 +68,8 @@ impl Sink for MemorySink {
         ensures failed { IsTrue (is_to_fail self.old.fails self.old.calls) → is_err result ≡ true }
         ensures much { IfOk result (λ n. n ≡ min (length piece.now) self.old.per_call) }
         ensures script { (self.new.per_call ≡ self.old.per_call) × (self.new.fails ≡ self.old.fails) }
-        ensures calls { self.new.calls ≡ counted self.old.calls }
-        ensures faults { self.new.faults ≡ (if is_err result then counted self.old.faults else self.old.faults) }
+        ensures calls { self.new.calls ≡ saturating_suc self.old.calls }
+        ensures faults { self.new.faults ≡ (if is_err result then saturating_suc self.old.faults else self.old.faults) }
     {
         self.calls.count()?;
         let taken = piece.len().min(self.per_call);

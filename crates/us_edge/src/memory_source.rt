@@ -1,7 +1,7 @@
 ghost use Rattle.std.specs.Prelude.{◌≡◌, ◌<◌, ◌≤◌, Some, IfOk, OnErr, [], if◌then◌else◌, is_err, length, take, min};
 ghost use Rattle.us_edge.specs.Faults.{Rose};
 ghost use Rattle.us_edge.specs.Streams.{Gives};
-ghost use Rattle.us_edge.specs.Scripts.{counted, is_to_fail};
+ghost use Rattle.us_edge.specs.Scripts.{saturating_suc, is_to_fail};
 
 use crate::calls::Calls;
 use crate::{Failed, Source};
@@ -61,8 +61,8 @@ impl Source for MemorySource {
         ensures failed { is_err result ≡ is_to_fail self.old.fails self.old.calls }
         ensures much { IfOk result (λ n. n ≡ min (min (length into.old) self.old.per_call) (length self.old.left)) }
         ensures script { (self.new.per_call ≡ self.old.per_call) × (self.new.fails ≡ self.old.fails) }
-        ensures calls { self.new.calls ≡ counted self.old.calls }
-        ensures faults { self.new.faults ≡ (if is_err result then counted self.old.faults else self.old.faults) }
+        ensures calls { self.new.calls ≡ saturating_suc self.old.calls }
+        ensures faults { self.new.faults ≡ (if is_err result then saturating_suc self.old.faults else self.old.faults) }
     {
         self.calls.count()?;
         let given = into

@@ -50,7 +50,7 @@ impl Links for SureLinks {
 
     fn start(&mut self, plan: &Plan) -> Result<(), StartFault> {
         self.plan = None;
-        self.plan = Some(plan.copy(*self.inputs.allocator())?);
+        self.plan = Some(plan.copy()?);
         Ok(())
     }
 

@@ -4,7 +4,7 @@ ghost use Rattle.us_edge.specs.Streams.{Appends, AppendsPrefix};
 
 use crate::{Failed, Sink};
 
-/// Writes all the bytes. After `Failed` a front of them was written.
+/// Writes all the bytes. After `Failed` a prefix of them was written.
 pub fn write_all<K: Sink>(sink: &mut K, bytes: &[u8]) -> Result<(), Failed>
     ensures ok { OnOk result (Appends (K.written sink.old) (K.written sink.new) bytes.now) }
     ensures err { OnErr result (AppendsPrefix (K.written sink.old) (K.written sink.new) bytes.now) }

@@ -4,7 +4,7 @@ use Rattle.std.specs.Prelude.{filter, ◌&&◌, ◌||◌, ◌==◌, nat_lt, nat_
 use Rattle.std.specs.List.{range_with_len}
 use Rattle.std.proofs.lemmas.Bool.{eqb-true, and_parts}
 use Rattle.std.proofs.lemmas.Bool.Decides.{nat_tests}
-use Rattle.us_kind.specs.Words.{In, bytes_eq, tid_eq}
+use Rattle.us_kind.specs.Comparison.{In, bytes_eq, tid_eq}
 use Rattle.us_kind.specs.Updates.{All, AllLater}
 use Rattle.us_kind.specs.declared.identity.Tid.{Tid}
 use Rattle.us_kind.proofs.TestLemmas.{bytes_eq-true, tid_eq-same}

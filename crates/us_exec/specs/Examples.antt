@@ -27,12 +27,12 @@ abbrev pub tid : ℕ → Tid
 tid seq = record { site = 1; coord = 1; seq = seq }
 
 -- a past counts so many of a session
-abbrev pub counted : ℕ → ℕ → Count
-counted number count = record { session = session number; count = count }
+abbrev pub count_of : ℕ → ℕ → Count
+count_of number count = record { session = session number; count = count }
 
 -- the past of the first transaction of the first session
 abbrev pub first : List Count
-first = counted 1 1 ∷ []
+first = count_of 1 1 ∷ []
 
 abbrev pub item : ℕ → Item
 item id = record { space = 1; id = id ∷ [] }
@@ -146,15 +146,15 @@ committed_and_loose = beside_writer (record (open_one 1 [] []) { tid = tid 1 } �
 
 -- a past that names a session twice
 abbrev pub twice : List Count
-twice = counted 1 1 ∷ counted 1 1 ∷ []
+twice = count_of 1 1 ∷ count_of 1 1 ∷ []
 
 -- one that counts none of a session
 abbrev pub none_of : List Count
-none_of = counted 1 1 ∷ counted 2 0 ∷ []
+none_of = count_of 1 1 ∷ count_of 2 0 ∷ []
 
 -- one that counts more of a session than it has
 abbrev pub too_many : List Count
-too_many = counted 1 1 ∷ counted 2 1 ∷ []
+too_many = count_of 1 1 ∷ count_of 2 1 ∷ []
 
 -- the second's past is this
 abbrev pub with_past : List Count → Execution
@@ -178,10 +178,10 @@ abbrev pub second_has_first : Entry
 second_has_first = begins 2 first []
 
 abbrev pub overlooked_step : Execution
-overlooked_step = executed (writer ∷ second_has_first ∷ begins 3 (counted 2 1 ∷ []) [] ∷ [])
+overlooked_step = executed (writer ∷ second_has_first ∷ begins 3 (count_of 2 1 ∷ []) [] ∷ [])
 
 abbrev pub loose_overlooked_step : Execution
-loose_overlooked_step = record { entries = writer ∷ second_has_first ∷ []; loose = open_one 3 (counted 2 1 ∷ []) [] ∷ []; links = [] }
+loose_overlooked_step = record { entries = writer ∷ second_has_first ∷ []; loose = open_one 3 (count_of 2 1 ∷ []) [] ∷ []; links = [] }
 
 -- the second's past lacks the session's first
 abbrev pub overlooked_past : Execution
@@ -213,7 +213,7 @@ read_outside_past = executed (writer ∷ begins 2 [] (read 7 5 ∷ []) ∷ [])
 
 -- two write a register, and a third, which has both in its past, reads this value
 abbrev pub both : List Count
-both = counted 1 1 ∷ counted 2 1 ∷ []
+both = count_of 1 1 ∷ count_of 2 1 ∷ []
 
 abbrev pub two_writers : ℕ → Execution
 two_writers value = executed (writer ∷ begins 2 [] (wrote 7 6 ∷ []) ∷ begins 3 both (read 7 value ∷ []) ∷ [])

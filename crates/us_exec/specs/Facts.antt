@@ -1,12 +1,14 @@
 -- What sound says, fact by fact, so that an execution can be shown to lack one of them alone.
 use Rattle.std.specs.Prelude.{◌≢◌, ◌↔◌}
-use Rattle.us_kind.specs.Words.{In}
+use Rattle.us_kind.specs.Comparison.{In}
 use Rattle.us_exec.specs.declared.Entry.{Entry}
 use Rattle.us_exec.specs.declared.Loose.{Loose}
 use Rattle.us_exec.specs.declared.Execution.{Execution}
 use Rattle.us_exec.specs.Conflict.{Declared}
-use Rattle.us_exec.specs.WellFormed.{AreNumbered, AreOfCoordinators, LooseAreOfCoordinators, AreBegunInOrder, AreNamedOnce, LooseAreNamedOnce, AreNamedApart, NamesEachOnce, CountsFromOne, CountsWithin}
-use Rattle.us_exec.specs.Consistency.{HoldsLinked, HoldsWhatIsBefore, HoldSessions, LooseHoldSessions, StandInOrder, AnswersHaveValues, LooseAnswersHaveValues, IsOrdered, IsSound}
+use Rattle.us_exec.specs.WellFormed.{AreNumbered, AreOfCoordinators, LooseAreOfCoordinators, AreBegunInOrder, AreNamedOnce, LooseAreNamedOnce}
+use Rattle.us_exec.specs.WellFormed.{AreNamedApart, NamesEachOnce, CountsFromOne, CountsWithin}
+use Rattle.us_exec.specs.Consistency.{HoldsLinked, HoldsWhatIsBefore, HoldSessions, LooseHoldSessions, StandInOrder, AnswersHaveValues}
+use Rattle.us_exec.specs.Consistency.{LooseAnswersHaveValues, IsOrdered, IsSound}
 
 pub data Fact : Type 0 where
   -- well formed

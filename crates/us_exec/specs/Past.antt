@@ -1,6 +1,6 @@
 -- What is before what.
 use Rattle.std.specs.Prelude.{ℕ, List, [], ◌∷◌, Bool, ◌&&◌, ◌==◌, nat_le, nat_lt, if◌then◌else◌}
-use Rattle.us_kind.specs.Words.{lex}
+use Rattle.us_kind.specs.Comparison.{lex}
 use Rattle.us_exec.specs.declared.SessionName.{SessionName}
 use Rattle.us_exec.specs.declared.Count.{Count}
 use Rattle.us_exec.specs.declared.Entry.{Entry}

@@ -1,7 +1,7 @@
 -- The updates that an operation sees, and the value that it has.
 use Rattle.std.specs.Prelude.{◌≡◌, ℕ, ◌+◌, List, [], ◌∷◌, ◌++◌, Bool, ◌&&◌, nat_lt, if◌then◌else◌}
 use Rattle.std.specs.List.{list_any}
-use Rattle.us_kind.specs.Words.{tid_eq}
+use Rattle.us_kind.specs.Comparison.{tid_eq}
 use Rattle.us_kind.specs.Updates.{Update}
 use Rattle.us_kind.specs.declared.identity.Tid.{Tid}
 use Rattle.us_kind.specs.declared.identity.Tag.{Tag}

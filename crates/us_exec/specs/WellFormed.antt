@@ -1,7 +1,7 @@
 -- Well formed: an execution's transactions are told apart, numbered and counted.
 use Rattle.std.specs.Prelude.{◌≡◌, ℕ, ◌<◌, ◌≤◌, List, length, map, filter, true}
 use Rattle.std.specs.List.{range_with_len}
-use Rattle.us_kind.specs.Words.{In}
+use Rattle.us_kind.specs.Comparison.{In}
 use Rattle.us_kind.specs.Updates.{AllLater}
 use Rattle.us_kind.specs.declared.identity.Tid.{Tid}
 use Rattle.us_exec.specs.declared.SessionName.{SessionName}

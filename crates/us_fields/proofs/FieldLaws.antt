@@ -1,51 +1,51 @@
--- Items, operations and answers are read as they are spelled.
+-- Items, operations and answers are read as they are encoded.
 use Rattle.std.proofs.Common.{◌≡◌, ℕ, ℤ, zero, suc, ◌+◌, ◌^◌, ◌<◌, ◌≤◌, ◌==◌, Bool, true, false, cond, leb, List, [], ◌∷◌, length, take, drop, Option, Some, None, refl, sym, ap, subst, ◌∙◌, arith}
 use Rattle.std.specs.Prelude.{FitsSigned}
 use Rattle.std.specs.Int.{w8, w32, w64, w128, to_be_bytes}
 use Rattle.std.specs.List.{AllByRecursion}
 use Rattle.std.proofs.lemmas.Bool.{eqb-true, leb-true, le-leb, cond-true, eq-eqb, and_parts, and_from}
 use Rattle.std.proofs.lemmas.List.{length-take-le, length-drop}
-use Rattle.us_kind.specs.Words.{bytes_less}
+use Rattle.us_kind.specs.Comparison.{bytes_less}
 use Rattle.us_kind.specs.Updates.{All, AllLater}
 use Rattle.us_kind.specs.Orders.{bytes_trans}
 use Rattle.us_wire.specs.Fields.{StandsAt, number_at, integer_at, integer, value, value_at, longest_value}
-use Rattle.us_wire.specs.Readings.{and_then, if_passes, many_at, many_spelling, number_between_at, Reads, ReadsOn}
-use Rattle.us_wire.proofs.Spelled.{Stands-cut, Stands-front, wide32, wide64, wide128, reads_numbers, reads_integers, reads_values}
+use Rattle.us_wire.specs.Decoders.{and_then, if_passes, many_at, many_encoding, number_between_at, IsCodec, IsCodecWithin}
+use Rattle.us_wire.proofs.Encoded.{Stands-cut, Stands-front, wide32, wide64, wide128, reads_numbers, reads_integers, reads_values}
 use Rattle.us_wire.proofs.Combined.{on, reads, refit, refit_on, reads_then, reads_made, reads_nothing, reads_none, reads_either, reads_passing_on, reads_many, reads_byte, found_one}
-use Rattle.us_migrate.specs.Spellings.{IsOneOf}
+use Rattle.us_migrate.specs.Encodings.{IsOneOf}
 use Rattle.us_value.specs.declared.item.Item.{Item}
 use Rattle.us_value.specs.declared.operation.Op.{Op}
 use Rattle.us_value.specs.declared.operation.Op.TheVariants as op
 use Rattle.us_value.specs.declared.operation.Answer.{Answer}
 use Rattle.us_value.specs.declared.operation.Answer.TheVariants as answer
-use Rattle.us_fields.specs.Fields.{id_spelling, item_spelling, ItemFits, op_code, op_fields, op_spelling, OpFits, answer_code, answer_fields, answer_spelling, AnswerFits, ValuesFit, values_spelling, bit_spelling}
-use Rattle.us_fields.specs.FieldReadings.{cut_at, id_at, item_at, op_fields_at, op_at, is_ascending, values_at, answer_fields_at, answer_at}
+use Rattle.us_fields.specs.Fields.{id_encoding, item_encoding, ItemFits, op_code, op_fields, op_encoding, OpFits, answer_code, answer_fields, answer_encoding, AnswerFits, ValuesFit, values_encoding, bit_encoding}
+use Rattle.us_fields.specs.FieldDecoders.{cut_at, id_at, item_at, op_fields_at, op_at, is_ascending, values_at, answer_fields_at, answer_at}
 use Rattle.us_fields.specs.Laws.{ReadsItems, ReadsOps, ReadsAnswers}
 
 -- ---- bytes, numbers, values
 
-pub one_of : (most : ℕ) → most < 256 → Reads (IsOneOf most) (λ n. n ∷ []) (number_between_at w8 1 most)
+pub one_of : (most : ℕ) → most < 256 → IsCodec (IsOneOf most) (λ n. n ∷ []) (number_between_at w8 1 most)
 one_of most small = refit (λ n. (1 ≤ n) × (n ≤ most)) (IsOneOf most) (λ n. n ∷ []) (λ n. n ∷ []) (number_between_at w8 1 most) (reads_byte 1 most small)
     (λ n f. record { first = f.0; last = f.1 }) (λ n f. (f.first, f.last)) (λ n f. refl)
 
-pub words : Reads (λ n. n < 256 ^ 8) (to_be_bytes w64) (number_at w64)
+pub words : IsCodec (λ n. n < 256 ^ 8) (to_be_bytes w64) (number_at w64)
 words = let law = reads_numbers w64 wide64 in reads (λ n. n < 256 ^ 8) (to_be_bytes w64) (number_at w64) law.found law.again
 
-counts : Reads (λ n. n < 256 ^ 4) (to_be_bytes w32) (number_at w32)
+counts : IsCodec (λ n. n < 256 ^ 4) (to_be_bytes w32) (number_at w32)
 counts = let law = reads_numbers w32 wide32 in reads (λ n. n < 256 ^ 4) (to_be_bytes w32) (number_at w32) law.found law.again
 
-pub amounts : Reads (FitsSigned w64) (integer w64) (integer_at w64)
+pub amounts : IsCodec (FitsSigned w64) (integer w64) (integer_at w64)
 amounts = let law = reads_integers w64 wide64 refl in reads (FitsSigned w64) (integer w64) (integer_at w64) law.found law.again
 
-sums : Reads (FitsSigned w128) (integer w128) (integer_at w128)
+sums : IsCodec (FitsSigned w128) (integer w128) (integer_at w128)
 sums = let law = reads_integers w128 wide128 refl in reads (FitsSigned w128) (integer w128) (integer_at w128) law.found law.again
 
-pub values : Reads (λ bytes. length bytes ≤ longest_value) value value_at
+pub values : IsCodec (λ bytes. length bytes ≤ longest_value) value value_at
 values = reads (λ bytes. length bytes ≤ longest_value) value value_at reads_values.found reads_values.again
 
 -- ---- items
 
-reads_cut : (size : ℕ) → ReadsOn (λ bytes. (length bytes ≡ size) × Unit {0}) (λ bytes. bytes) (cut_at size)
+reads_cut : (size : ℕ) → IsCodecWithin (λ bytes. (length bytes ≡ size) × Unit {0}) (λ bytes. bytes) (cut_at size)
 reads_cut size = record {
   found = λ input at bytes next are within e. taken input at bytes next (leb (at + size) (length input)) refl e;
   again = λ input at bytes next fits s.
@@ -67,9 +67,9 @@ reads_cut size = record {
         subst (λ (n : ℕ). P bytes n) one.1 (subst (λ (w : List ℕ). P w (at + size)) one.0 (Stands-cut size at input fits, (length-take-le size (drop at input) (omega (arith, length-drop at input)), tt)))
     taken input at bytes next false is e = absurd (cc)
 
-reads_ids : Reads (λ id. IsOneOf 64 (length id)) id_spelling id_at
+reads_ids : IsCodec (λ id. IsOneOf 64 (length id)) id_encoding id_at
 unfolding id_at
-reads_ids = refit _ (λ id. IsOneOf 64 (length id)) _ id_spelling id_at
+reads_ids = refit _ (λ id. IsOneOf 64 (length id)) _ id_encoding id_at
     (reads_then (IsOneOf 64) (λ n. n ∷ []) (number_between_at w8 1 64) (λ (id : List ℕ). length id) (λ id. Unit {0}) (λ id. id) cut_at (one_of 64 (omega arith)) (λ size f. reads_cut size))
     (λ id f. f.0) (λ id f. (f, tt)) (λ id f. refl)
 
@@ -77,11 +77,11 @@ pub reads_items : ReadsItems
 unfolding item_at
 reads_items =
     let Id : List ℕ → Type 0 = λ id. IsOneOf 64 (length id) in
-    let last : (space : ℕ) → Reads (λ (item : Item). (item.space ≡ space) × Id item.id) (λ item. id_spelling item.id) (λ input at. and_then (id_at input at) (λ id next. Some (record { space = space; id = id }, next))) =
-    λ space. reads_made Id id_spelling id_at (λ id. record { space = space; id = id }) (λ (item : Item). (item.space ≡ space) × Id item.id) (λ item. id_spelling item.id) reads_ids
+    let last : (space : ℕ) → IsCodec (λ (item : Item). (item.space ≡ space) × Id item.id) (λ item. id_encoding item.id) (λ input at. and_then (id_at input at) (λ id next. Some (record { space = space; id = id }, next))) =
+    λ space. reads_made Id id_encoding id_at (λ id. record { space = space; id = id }) (λ (item : Item). (item.space ≡ space) × Id item.id) (λ item. id_encoding item.id) reads_ids
     (λ id f. (refl, f)) (λ id f. refl) (λ item g. (item.id, (λ i. record { space = sym g.0 i; id = item.id }), g.1)) in
-    refit _ ItemFits _ item_spelling item_at
-    (reads_then (IsOneOf 255) (λ n. n ∷ []) (number_between_at w8 1 255) (λ (item : Item). item.space) (λ (item : Item). Id item.id) (λ item. id_spelling item.id)
+    refit _ ItemFits _ item_encoding item_at
+    (reads_then (IsOneOf 255) (λ n. n ∷ []) (number_between_at w8 1 255) (λ (item : Item). item.space) (λ (item : Item). Id item.id) (λ item. id_encoding item.id)
     (λ space input at. and_then (id_at input at) (λ id next. Some (record { space = space; id = id }, next))) (one_of 255 (omega arith)) (λ space f. on _ _ _ (last space)))
     (λ item f. record { space = f.0; id = f.1 }) (λ item f. (f.space, f.id)) (λ item f. refl)
 
@@ -150,7 +150,7 @@ op_13 (op.MultiWrite bytes) e f = (bytes, refl, f)
 op_13 _ e f = absurd (cc)
 
 -- one without fields
-bare_op : (code k : ℕ) (c : Op) → (code == k) ≡ true → op_code c ≡ k → op_fields c ≡ [] → OpFits c → ((o : Op) → op_code o ≡ k → c ≡ o) → ReadsOn (IsOp code) op_fields (λ input at. Some (c, at))
+bare_op : (code k : ℕ) (c : Op) → (code == k) ≡ true → op_code c ≡ k → op_fields c ≡ [] → OpFits c → ((o : Op) → op_code o ≡ k → c ≡ o) → IsCodecWithin (IsOp code) op_fields (λ input at. Some (c, at))
 bare_op code k c test is empty fits only =
     let same : code ≡ k = eqb-true code k test in
     reads_nothing c (IsOp code) op_fields (λ o h. only o (h.0 ∙ same)) (is ∙ sym same, fits) empty
@@ -158,14 +158,14 @@ bare_op code k c test is empty fits only =
 -- one with a value
 value_op : (code k : ℕ) (make : List ℕ → Op) → (code == k) ≡ true → ((bytes : List ℕ) → op_code (make bytes) ≡ k) → ((bytes : List ℕ) → op_fields (make bytes) ≡ value bytes)
     → ((bytes : List ℕ) → length bytes ≤ longest_value → OpFits (make bytes)) → ((o : Op) → op_code o ≡ k → OpFits o → (bytes : List ℕ) × (make bytes ≡ o) × (length bytes ≤ longest_value))
-    → ReadsOn (IsOp code) op_fields (λ input at. and_then (value_at input at) (λ bytes next. Some (make bytes, next)))
-value_op code k make test is spelled fits only =
+    → IsCodecWithin (IsOp code) op_fields (λ input at. and_then (value_at input at) (λ bytes next. Some (make bytes, next)))
+value_op code k make test is encoded fits only =
     let same : code ≡ k = eqb-true code k test in
     on (IsOp code) op_fields (λ input at. and_then (value_at input at) (λ bytes next. Some (make bytes, next)))
     (reads_made (λ bytes. length bytes ≤ longest_value) value value_at make (IsOp code) op_fields values
-    (λ bytes f. (is bytes ∙ sym same, fits bytes f)) (λ bytes f. sym (spelled bytes)) (λ o h. only o (h.0 ∙ same) h.1))
+    (λ bytes f. (is bytes ∙ sym same, fits bytes f)) (λ bytes f. sym (encoded bytes)) (λ o h. only o (h.0 ∙ same) h.1))
 
-reads_op_fields : (code : ℕ) → ReadsOn (IsOp code) op_fields (op_fields_at code)
+reads_op_fields : (code : ℕ) → IsCodecWithin (IsOp code) op_fields (op_fields_at code)
 unfolding op_fields_at
 reads_op_fields code =
     reads_either (code == 1) (IsOp code) op_fields _ _ (λ t. bare_op code 1 op.RegisterRead t refl refl tt op_1) (λ n1.
@@ -222,7 +222,7 @@ pub reads_ops : ReadsOps
 unfolding op_at
 reads_ops =
     let IsCode : ℕ → Type 0 = λ n. (0 ≤ n) × (n ≤ 255) in
-    refit _ OpFits _ op_spelling op_at
+    refit _ OpFits _ op_encoding op_at
     (reads_then IsCode (λ n. n ∷ []) (number_between_at w8 0 255) op_code OpFits op_fields op_fields_at (reads_byte 0 255 (omega arith)) (λ code f. reads_op_fields code))
     (λ o f. f.1) (λ o f. ((omega arith, op_code-byte o), f)) (λ o f. refl)
 
@@ -246,17 +246,17 @@ ascends [] h = refl
 ascends (x ∷ []) h = refl
 ascends (x ∷ y ∷ ys) h = and_from (bytes_less x y) (is_ascending (y ∷ ys)) h.0.0 (ascends (y ∷ ys) h.1)
 
-reads_values_ : Reads ValuesFit values_spelling values_at
+reads_values_ : IsCodec ValuesFit values_encoding values_at
 unfolding values_at
 reads_values_ =
     let Short : List ℕ → Type 0 = λ bytes. length bytes ≤ longest_value in
     let Rises : List (List ℕ) → Type 0 = λ xs. AllLater (λ x y. bytes_less x y ≡ true) xs in
-    refit _ ValuesFit _ values_spelling values_at
-    (reads_then (λ n. n < 256 ^ 4) (to_be_bytes w32) (number_at w32) (λ (xs : List (List ℕ)). length xs) (λ xs. AllByRecursion Short xs × Rises xs) (many_spelling value)
+    refit _ ValuesFit _ values_encoding values_at
+    (reads_then (λ n. n < 256 ^ 4) (to_be_bytes w32) (number_at w32) (λ (xs : List (List ℕ)). length xs) (λ xs. AllByRecursion Short xs × Rises xs) (many_encoding value)
     (λ count input at. if_passes is_ascending (many_at value_at count input at)) counts
-    (λ count f. refit_on _ _ _ _ _ (reads_passing_on (λ xs. (length xs ≡ count) × AllByRecursion Short xs) (many_spelling value) (many_at value_at count) is_ascending Rises (reads_many Short value value_at values count) rises ascends)
+    (λ count f. refit_on _ _ _ _ _ (reads_passing_on (λ xs. (length xs ≡ count) × AllByRecursion Short xs) (many_encoding value) (many_at value_at count) is_ascending Rises (reads_many Short value value_at values count) rises ascends)
     (λ xs g. (g.0.0, (g.0.1, g.1))) (λ xs g. ((g.0, g.1.0), g.1.1)) (λ xs g. refl)))
-    (λ xs f. record { counted = omega (arith, f.0); each = f.1.0; ascending = f.1.1 }) (λ xs f. (omega (arith, f.counted), (f.each, f.ascending))) (λ xs f. refl)
+    (λ xs f. record { few = omega (arith, f.0); each = f.1.0; ascending = f.1.1 }) (λ xs f. (omega (arith, f.few), (f.each, f.ascending))) (λ xs f. refl)
 
 abbrev IsAnswer : ℕ → Answer → Type 0
 IsAnswer code a = (answer_code a ≡ code) × AnswerFits a
@@ -281,21 +281,17 @@ answer_4 : (a : Answer) → answer_code a ≡ 4 → AnswerFits a → (xs : List 
 answer_4 (answer.Values xs) e f = (xs, refl, f)
 answer_4 _ e f = absurd (cc)
 
--- a bit by its number
-bit_of : ℕ → Answer
-bit_of n = answer.Bit (n == 1)
-
 answer_5 : (a : Answer) → answer_code a ≡ 5 → (n : ℕ) × (answer.Bit (n == 1) ≡ a) × ((0 ≤ n) × (n ≤ 1))
 answer_5 (answer.Bit false) e = (0, refl, (omega arith, omega arith))
 answer_5 (answer.Bit true) e = (1, refl, (omega arith, omega arith))
 answer_5 _ e = absurd (cc)
 
-bit-spelled : (n : ℕ) → n ≤ 1 → n ∷ [] ≡ bit_spelling (n == 1)
-bit-spelled zero le = refl
-bit-spelled (suc zero) le = refl
-bit-spelled (suc (suc n)) le = absurd (omega arith)
+bit-encoded : (n : ℕ) → n ≤ 1 → n ∷ [] ≡ bit_encoding (n == 1)
+bit-encoded zero le = refl
+bit-encoded (suc zero) le = refl
+bit-encoded (suc (suc n)) le = absurd (omega arith)
 
-reads_answer_fields : (code : ℕ) → ReadsOn (IsAnswer code) answer_fields (answer_fields_at code)
+reads_answer_fields : (code : ℕ) → IsCodecWithin (IsAnswer code) answer_fields (answer_fields_at code)
 unfolding answer_fields_at
 reads_answer_fields code =
     reads_either (code == 0) (IsAnswer code) answer_fields _ _ (λ t. bare 0 answer.Done t refl refl tt answer_0) (λ n0.
@@ -310,15 +306,15 @@ reads_answer_fields code =
     (λ z f. (sym (eqb-true code 3 t), f)) (λ z f. refl) (λ a h. answer_3 a (h.0 ∙ eqb-true code 3 t) h.1))) (λ n3.
     reads_either (code == 4) (IsAnswer code) answer_fields _ _ (λ t.
     on (IsAnswer code) answer_fields (λ input at. and_then (values_at input at) (λ xs next. Some (answer.Values xs, next)))
-    (reads_made ValuesFit values_spelling values_at (λ xs. answer.Values xs) (IsAnswer code) answer_fields reads_values_
+    (reads_made ValuesFit values_encoding values_at (λ xs. answer.Values xs) (IsAnswer code) answer_fields reads_values_
     (λ xs f. (sym (eqb-true code 4 t), f)) (λ xs f. refl) (λ a h. answer_4 a (h.0 ∙ eqb-true code 4 t) h.1))) (λ n4.
     reads_either (code == 5) (IsAnswer code) answer_fields _ _ (λ t.
     on (IsAnswer code) answer_fields (λ input at. and_then (number_between_at w8 0 1 input at) (λ bit next. Some (answer.Bit (bit == 1), next)))
     (reads_made (λ n. (0 ≤ n) × (n ≤ 1)) (λ n. n ∷ []) (number_between_at w8 0 1) (λ n. answer.Bit (n == 1)) (IsAnswer code) answer_fields (reads_byte 0 1 (omega arith))
-    (λ n f. (sym (eqb-true code 5 t), tt)) (λ n f. bit-spelled n f.1) (λ a h. answer_5 a (h.0 ∙ eqb-true code 5 t)))) (λ n5.
+    (λ n f. (sym (eqb-true code 5 t), tt)) (λ n f. bit-encoded n f.1) (λ a h. answer_5 a (h.0 ∙ eqb-true code 5 t)))) (λ n5.
     reads_none (IsAnswer code) answer_fields (λ a h. none a h n0 n1 n2 n3 n4 n5)))))))
   where
-    bare : (k : ℕ) (c : Answer) → (code == k) ≡ true → answer_code c ≡ k → answer_fields c ≡ [] → AnswerFits c → ((a : Answer) → answer_code a ≡ k → c ≡ a) → ReadsOn (IsAnswer code) answer_fields (λ input at. Some (c, at))
+    bare : (k : ℕ) (c : Answer) → (code == k) ≡ true → answer_code c ≡ k → answer_fields c ≡ [] → AnswerFits c → ((a : Answer) → answer_code a ≡ k → c ≡ a) → IsCodecWithin (IsAnswer code) answer_fields (λ input at. Some (c, at))
     bare k c test is empty fits only =
         let same : code ≡ k = eqb-true code k test in
         reads_nothing c (IsAnswer code) answer_fields (λ a h. only a (h.0 ∙ same)) (is ∙ sym same, fits) empty
@@ -343,6 +339,6 @@ pub reads_answers : ReadsAnswers
 unfolding answer_at
 reads_answers =
     let IsCode : ℕ → Type 0 = λ n. (0 ≤ n) × (n ≤ 255) in
-    refit _ AnswerFits _ answer_spelling answer_at
+    refit _ AnswerFits _ answer_encoding answer_at
     (reads_then IsCode (λ n. n ∷ []) (number_between_at w8 0 255) answer_code AnswerFits answer_fields answer_fields_at (reads_byte 0 255 (omega arith)) (λ code f. reads_answer_fields code))
     (λ a f. f.1) (λ a f. ((omega arith, answer_code-byte a), f)) (λ a f. refl)

@@ -6,17 +6,17 @@ use Rattle.std.specs.Cmp.Lexicographic.{slice_cmp}
 use Rattle.std.specs.Ordering.{nat_cmp, is_lt, is_ge}
 use Rattle.std.specs.declared.cmp.Ordering.{Ordering}
 use Rattle.std.specs.declared.cmp.Ordering.TheVariants.{Less, Equal, Greater}
-use Rattle.us_kind.specs.Words.{bytes_less}
+use Rattle.us_kind.specs.Comparison.{bytes_less}
 use Rattle.us_kind.specs.Orders.{bytes_less-cmp}
 use Rattle.std.specs.Int.{w8}
 use Rattle.us_wire.specs.Fields.{value, value_at, longest_value, AreBytes}
 use Rattle.std.proofs.lemmas.Bool.{le-leb, cond-true}
-use Rattle.us_wire.specs.Readings.{and_then, many_at, many_spelling, number_between_at}
-use Rattle.us_wire.proofs.Combined.{in_front, many_at-start, many_at-stop, many_spelling-push, reads_byte}
+use Rattle.us_wire.specs.Decoders.{and_then, many_at, many_encoding, number_between_at}
+use Rattle.us_wire.proofs.Combined.{in_front, many_at-start, many_at-stop, many_encoding-push, reads_byte}
 use Rattle.us_fields.specs.declared.fault.DecodeFault.{DecodeFault}
 use Rattle.us_fields.specs.declared.fault.DecodeFault.TheVariants.{Malformed, Memory}
-use Rattle.us_fields.specs.Reading.{Tells}
-use Rattle.us_fields.specs.FieldReadings.{is_below_first, is_ascending, cut_at, id_at}
+use Rattle.us_fields.specs.DecodeResult.{Tells}
+use Rattle.us_fields.specs.FieldDecoders.{is_below_first, is_ascending, cut_at, id_at}
 
 pub many_stop : (count i : ℕ) (input : List ℕ) (at mid : ℕ) (xs : List (List ℕ)) (fault : DecodeFault) → i < count → many_at value_at count input at ≡ in_front xs (many_at value_at (count - i) input mid)
     → Tells {X = List ℕ × ℕ} (Err fault) (value_at input mid) → Tells {X = List (List ℕ) × ℕ} (Err fault) (many_at value_at count input at)
@@ -69,16 +69,16 @@ at_place [] i x all lt e = absurd (omega arith)
 at_place (y ∷ xs) zero x all lt e = subst (λ (w : List ℕ). length w ≤ longest_value) (sym e) all.0
 at_place (y ∷ xs) (suc i) x all lt e = at_place xs i x all.1 (omega arith) e
 
-pub no_value_written : (xs : List (List ℕ)) (old : List ℕ) → old ≡ old ++ many_spelling value (take 0 xs)
-unfolding many_spelling
+pub no_value_written : (xs : List (List ℕ)) (old : List ℕ) → old ≡ old ++ many_encoding value (take 0 xs)
+unfolding many_encoding
 no_value_written xs old = sym (append-nil old)
 
-pub value_written : (xs : List (List ℕ)) (i : ℕ) (x old now new : List ℕ) → i < length xs → x ≡ get_or xs i x → now ≡ old ++ many_spelling value (take i xs) → new ≡ now ++ value x → new ≡ old ++ many_spelling value (take (i + 1) xs)
+pub value_written : (xs : List (List ℕ)) (i : ℕ) (x old now new : List ℕ) → i < length xs → x ≡ get_or xs i x → now ≡ old ++ many_encoding value (take i xs) → new ≡ now ++ value x → new ≡ old ++ many_encoding value (take (i + 1) xs)
 value_written xs i x old now new lt is so_far written =
     let one : i + 1 ≡ suc i = omega arith in
     let taken : take (i + 1) xs ≡ take i xs ++ x ∷ [] = ap (λ (k : ℕ). take k xs) one ∙ take-suc xs i x lt ∙ ap (λ (w : List ℕ). take i xs ++ w ∷ []) (sym is) in
-    written ∙ ap (λ (w : List ℕ). w ++ value x) so_far ∙ append_assoc old (many_spelling value (take i xs)) (value x)
-    ∙ ap (λ (w : List ℕ). old ++ w) (sym (many_spelling-push value (take i xs) x)) ∙ ap (λ (w : List (List ℕ)). old ++ many_spelling value w) (sym taken)
+    written ∙ ap (λ (w : List ℕ). w ++ value x) so_far ∙ append_assoc old (many_encoding value (take i xs)) (value x)
+    ∙ ap (λ (w : List ℕ). old ++ w) (sym (many_encoding-push value (take i xs) x)) ∙ ap (λ (w : List (List ℕ)). old ++ many_encoding value w) (sym taken)
 
 pub no_value_read : (count : ℕ) (input : List ℕ) (at : ℕ) → many_at value_at count input at ≡ in_front [] (many_at value_at (count - 0) input at)
 no_value_read count input at = let whole : count ≡ count - 0 = omega arith in many_at-start value_at count input at ∙ ap (λ (k : ℕ). in_front [] (many_at value_at k input at)) whole

@@ -6,7 +6,7 @@ use Rattle.std.proofs.lemmas.Bool.{and_parts, leb-true}
 use Rattle.std.proofs.lemmas.Bool.Decides.{nat_tests}
 use Rattle.us_wire.specs.Fields.{longest_value}
 use Rattle.us_fields.specs.Fields.{ValuesFit}
-use Rattle.us_fields.specs.FieldReadings.{is_ascending}
+use Rattle.us_fields.specs.FieldDecoders.{is_ascending}
 use Rattle.us_fields.specs.Lengths.{all_short}
 use Rattle.us_fields.proofs.FieldLaws.{rises, ascends}
 
@@ -22,7 +22,7 @@ short_all [] h = refl
 short_all (v ∷ vs) h = let first : nat_le (length v) longest_value ≡ true = (let f = h.0 in grind (arith, nat_tests)) in and_both (nat_le (length v) longest_value) (all_short vs) first (short_all vs h.1)
 
 pub values_fit : (vs : List (List ℕ)) → length vs < 2 ^ 32 → all_short vs ≡ true → is_ascending vs ≡ true → ValuesFit vs
-values_fit vs n e f = record { counted = n; each = shorts vs e; ascending = rises vs f }
+values_fit vs n e f = record { few = n; each = shorts vs e; ascending = rises vs f }
 
 pub fit_values : (vs : List (List ℕ)) → ValuesFit vs → (length vs < 2 ^ 32) × (all_short vs ≡ true) × (is_ascending vs ≡ true)
-fit_values vs h = (h.counted, short_all vs h.each, ascends vs h.ascending)
+fit_values vs h = (h.few, short_all vs h.each, ascends vs h.ascending)

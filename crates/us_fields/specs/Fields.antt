@@ -1,12 +1,12 @@
--- How items, operations and answers are spelled, and which have a spelling.
+-- How items, operations and answers are encoded, and which have an encoding.
 use Rattle.std.specs.Prelude.{◌≡◌, ℕ, ◌<◌, ◌≤◌, ◌^◌, List, [], ◌∷◌, ◌++◌, length, Bool, true, false, FitsSigned}
 use Rattle.std.specs.Int.{to_be_bytes, w32, w64, w128}
 use Rattle.std.specs.List.{AllByRecursion}
-use Rattle.us_kind.specs.Words.{bytes_less}
+use Rattle.us_kind.specs.Comparison.{bytes_less}
 use Rattle.us_kind.specs.Updates.{AllLater}
 use Rattle.us_wire.specs.Fields.{integer, value, longest_value}
-use Rattle.us_wire.specs.Readings.{many_spelling}
-use Rattle.us_migrate.specs.Spellings.{IsOneOf}
+use Rattle.us_wire.specs.Decoders.{many_encoding}
+use Rattle.us_migrate.specs.Encodings.{IsOneOf}
 use Rattle.us_value.specs.declared.item.Item.{Item}
 use Rattle.us_value.specs.declared.operation.Op.{Op}
 use Rattle.us_value.specs.declared.operation.Op.TheVariants as op
@@ -14,12 +14,12 @@ use Rattle.us_value.specs.declared.operation.Answer.{Answer}
 use Rattle.us_value.specs.declared.operation.Answer.TheVariants as answer
 
 -- a byte of length, and the id
-abbrev pub id_spelling : List ℕ → List ℕ
-id_spelling id = length id ∷ id
+abbrev pub id_encoding : List ℕ → List ℕ
+id_encoding id = length id ∷ id
 
 -- the space, and the id
-abbrev pub item_spelling : Item → List ℕ
-item_spelling item = item.space ∷ id_spelling item.id
+abbrev pub item_encoding : Item → List ℕ
+item_encoding item = item.space ∷ id_encoding item.id
 
 -- spaces are 1 to 255, and an id has 1 to 64 bytes
 pub record ItemFits (item : Item) : Type 0 where
@@ -58,8 +58,8 @@ op_fields op.FlagDisable = []
 op_fields op.MultiRead = []
 op_fields (op.MultiWrite bytes) = value bytes
 
-abbrev pub op_spelling : Op → List ℕ
-op_spelling o = op_code o ∷ op_fields o
+abbrev pub op_encoding : Op → List ℕ
+op_encoding o = op_code o ∷ op_fields o
 
 -- a value has at most 1,024 bytes, an amount eight
 abbrev pub OpFits : Op → Type 0
@@ -87,28 +87,28 @@ answer_code (answer.Number number) = 3
 answer_code (answer.Values values) = 4
 answer_code (answer.Bit yes') = 5
 
-abbrev pub bit_spelling : Bool → List ℕ
-bit_spelling false = 0 ∷ []
-bit_spelling true = 1 ∷ []
+abbrev pub bit_encoding : Bool → List ℕ
+bit_encoding false = 0 ∷ []
+bit_encoding true = 1 ∷ []
 
 -- how many there are, and each
-abbrev pub values_spelling : List (List ℕ) → List ℕ
-values_spelling values = to_be_bytes w32 (length values) ++ many_spelling value values
+abbrev pub values_encoding : List (List ℕ) → List ℕ
+values_encoding values = to_be_bytes w32 (length values) ++ many_encoding value values
 
 abbrev pub answer_fields : Answer → List ℕ
 answer_fields answer.Done = []
 answer_fields answer.Nothing = []
 answer_fields (answer.Value bytes) = value bytes
 answer_fields (answer.Number number) = integer w128 number
-answer_fields (answer.Values values) = values_spelling values
-answer_fields (answer.Bit yes') = bit_spelling yes'
+answer_fields (answer.Values values) = values_encoding values
+answer_fields (answer.Bit yes') = bit_encoding yes'
 
-abbrev pub answer_spelling : Answer → List ℕ
-answer_spelling a = answer_code a ∷ answer_fields a
+abbrev pub answer_encoding : Answer → List ℕ
+answer_encoding a = answer_code a ∷ answer_fields a
 
 -- values that ascend by their bytes, each once
 pub record ValuesFit (values : List (List ℕ)) : Type 0 where
-  pub counted : length values < 2 ^ 32
+  pub few : length values < 2 ^ 32
   pub each : AllByRecursion (λ bytes. length bytes ≤ longest_value) values
   pub ascending : AllLater (λ x y. bytes_less x y ≡ true) values
 

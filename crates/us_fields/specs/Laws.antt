@@ -1,22 +1,22 @@
--- What reading and spelling are to each other: what is read is spelled so, what is spelled so is read, whatever follows.
+-- What decoding and encoding are to each other: decoding and encoding are inverse, whatever follows.
 use Rattle.us_base.specs.declared.shape.Shape.{Shape}
 use Rattle.us_base.specs.Shape.{IsShape}
-use Rattle.us_wire.specs.Readings.{Reads}
-use Rattle.us_fields.specs.Fields.{item_spelling, op_spelling, answer_spelling, ItemFits, OpFits, AnswerFits}
-use Rattle.us_fields.specs.FieldReadings.{item_at, op_at, answer_at}
-use Rattle.us_fields.specs.Effects.{effect_spelling, EffectFits, effect_at, writes_spelling, WritesFit, writes_at}
+use Rattle.us_wire.specs.Decoders.{IsCodec}
+use Rattle.us_fields.specs.Fields.{item_encoding, op_encoding, answer_encoding, ItemFits, OpFits, AnswerFits}
+use Rattle.us_fields.specs.FieldDecoders.{item_at, op_at, answer_at}
+use Rattle.us_fields.specs.Effects.{effect_encoding, EffectFits, effect_at, writes_encoding, WritesFit, writes_at}
 
 abbrev pub ReadsItems : Type 0
-ReadsItems = Reads ItemFits item_spelling item_at
+ReadsItems = IsCodec ItemFits item_encoding item_at
 
 abbrev pub ReadsOps : Type 0
-ReadsOps = Reads OpFits op_spelling op_at
+ReadsOps = IsCodec OpFits op_encoding op_at
 
 abbrev pub ReadsAnswers : Type 0
-ReadsAnswers = Reads AnswerFits answer_spelling answer_at
+ReadsAnswers = IsCodec AnswerFits answer_encoding answer_at
 
 abbrev pub ReadsEffects : Type 0
-ReadsEffects = (shape : Shape) → IsShape shape → Reads (EffectFits shape) effect_spelling (effect_at shape)
+ReadsEffects = (shape : Shape) → IsShape shape → IsCodec (EffectFits shape) effect_encoding (effect_at shape)
 
 abbrev pub ReadsWrites : Type 0
-ReadsWrites = (shape : Shape) → IsShape shape → Reads (WritesFit shape) writes_spelling (writes_at shape)
+ReadsWrites = (shape : Shape) → IsShape shape → IsCodec (WritesFit shape) writes_encoding (writes_at shape)

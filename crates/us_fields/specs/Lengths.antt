@@ -1,4 +1,4 @@
--- How long spellings are.
+-- How long encodings are.
 use Rattle.std.specs.Prelude.{◌≡◌, ℕ, ◌+◌, ◌*◌, List, [], ◌∷◌, length, Bool, true, ◌&&◌, nat_le}
 use Rattle.us_kind.specs.declared.identity.Tid.{Tid}
 use Rattle.us_base.specs.declared.shape.Shape.{Shape}
@@ -10,16 +10,16 @@ use Rattle.us_value.specs.declared.operation.Class.{Class}
 use Rattle.us_value.specs.declared.operation.Effect.{Effect}
 use Rattle.us_wire.specs.Fields.{longest_value}
 use Rattle.us_value.specs.Lengths.{answer_length, item_length, effect_length, write_length}
-use Rattle.us_fields.specs.Fields.{answer_spelling}
-use Rattle.us_fields.specs.Effects.{write_spelling}
+use Rattle.us_fields.specs.Fields.{answer_encoding}
+use Rattle.us_fields.specs.Effects.{write_encoding}
 
--- an answer's spelling is as long as is said of the answer
+-- an answer's encoding is as long as is said of the answer
 abbrev pub AnswersAreAsLong : Type 0
-AnswersAreAsLong = (answer : Answer) → length (answer_spelling answer) ≡ answer_length answer
+AnswersAreAsLong = (answer : Answer) → length (answer_encoding answer) ≡ answer_length answer
 
--- a write's spelling is as long as is said of the write
+-- a write's encoding is as long as is said of the write
 abbrev pub WritesAreAsLong : Type 0
-WritesAreAsLong = (w : Write) → length (write_spelling w) ≡ write_length w
+WritesAreAsLong = (w : Write) → length (write_encoding w) ≡ write_length w
 
 -- no value is too long
 abbrev pub all_short : List (List ℕ) → Bool

@@ -1,6 +1,6 @@
 pub mod Fields
-pub mod FieldReadings
-pub mod Reading
+pub mod FieldDecoders
+pub mod DecodeResult
 pub mod Lists
 pub mod Effects
 pub mod Tuples

@@ -3,27 +3,27 @@ use Rattle.std.specs.Prelude.{ℕ, ◌≤◌, List, [], ◌∷◌, ◌++◌, len
 use Rattle.std.specs.Int.{to_be_bytes, w8, w16}
 use Rattle.std.specs.List.{AllByRecursion}
 use Rattle.us_wire.specs.Fields.{number_at}
-use Rattle.us_wire.specs.Readings.{Reading, and_then, if_passes, many_at, many_spelling, number_between_at}
+use Rattle.us_wire.specs.Decoders.{Decoder, and_then, if_passes, many_at, many_encoding, number_between_at}
 
 -- two fields, one behind the other
-abbrev pub both_at : {A B : Type 0} → Reading A → Reading B → Reading (A × B)
+abbrev pub both_at : {A B : Type 0} → Decoder A → Decoder B → Decoder (A × B)
 both_at first second input at = and_then (first input at) (λ a mid. and_then (second input mid) (λ b next. Some ((a, b), next)))
 
 -- what is made of a field
-abbrev pub made_at : {A B : Type 0} → (A → B) → Reading A → Reading B
+abbrev pub made_at : {A B : Type 0} → (A → B) → Decoder A → Decoder B
 made_at make read input at = and_then (read input at) (λ a next. Some (make a, next))
 
 -- a byte, and the fields that it tells
-abbrev pub coded_at : {A : Type 0} → (ℕ → Reading A) → Reading A
+abbrev pub coded_at : {A : Type 0} → (ℕ → Decoder A) → Decoder A
 coded_at fields input at = and_then (number_at w8 input at) (λ code next. fields code input next)
 
 -- ---- lists
 
 -- two bytes of count, and the items
-abbrev pub list_spelling : {A : Type 0} → (A → List ℕ) → List A → List ℕ
-list_spelling spelling xs = to_be_bytes w16 (length xs) ++ many_spelling spelling xs
+abbrev pub list_encoding : {A : Type 0} → (A → List ℕ) → List A → List ℕ
+list_encoding encoding xs = to_be_bytes w16 (length xs) ++ many_encoding encoding xs
 
--- from so many to so many items, each of which has a spelling
+-- from so many to so many items, each of which has an encoding
 pub record ListFits {A : Type 0} (least most : ℕ) (Fits : A → Type 0) (xs : List A) : Type 0 where
   pub enough : least ≤ length xs
   pub not_more : length xs ≤ most
@@ -33,7 +33,7 @@ pub record ListFits {A : Type 0} (least most : ℕ) (Fits : A → Type 0) (xs : 
 abbrev pub longest_list : ℕ
 longest_list = 65535
 
-unfoldable pub list_at : {A : Type 0} → (least most : ℕ) → Reading A → Reading (List A)
+unfoldable pub list_at : {A : Type 0} → (least most : ℕ) → Decoder A → Decoder (List A)
 list_at least most read input at = and_then (number_between_at w16 least most input at) (λ count next. many_at read count input next)
 
 -- ---- order
@@ -48,5 +48,5 @@ is_in_order before [] = true
 is_in_order before (x ∷ xs) = is_before_first before x xs && is_in_order before xs
 
 -- only a list that is in order
-abbrev pub ordered_at : {A : Type 0} → (A → A → Bool) → Reading (List A) → Reading (List A)
+abbrev pub ordered_at : {A : Type 0} → (A → A → Bool) → Decoder (List A) → Decoder (List A)
 ordered_at before read input at = if_passes (is_in_order before) (read input at)

@@ -1,4 +1,4 @@
-//! The numbers that stand for what is spelled.
+//! The numbers that stand for what is encoded.
 use us_base::Limits;
 
 /// The greatest length of an item's id, in bytes.

@@ -1,10 +1,10 @@
 //! Effects and writes: reading, writing, lengths.
 ghost use Rattle.std.specs.Prelude.{◌≡◌, ◌++◌, IfOk};
 ghost use Rattle.us_base.specs.Shape.{IsShape};
-ghost use Rattle.us_fields.specs.Reading.{Tells};
-ghost use Rattle.us_fields.specs.Effects.{tags_spelling, TagsFit, tags_at};
-ghost use Rattle.us_fields.specs.Effects.{effect_code, effect_fields, effect_spelling, EffectFits, effect_fields_at, effect_at};
-ghost use Rattle.us_fields.specs.Effects.{writes_spelling, WritesFit, writes_at};
+ghost use Rattle.us_fields.specs.DecodeResult.{Tells};
+ghost use Rattle.us_fields.specs.Effects.{tags_encoding, TagsFit, tags_at};
+ghost use Rattle.us_fields.specs.Effects.{effect_code, effect_fields, effect_encoding, EffectFits, effect_fields_at, effect_at};
+ghost use Rattle.us_fields.specs.Effects.{writes_encoding, WritesFit, writes_at};
 
 use crate::codes::{PLACES, effect_code};
 use crate::values::value_in;
@@ -17,14 +17,14 @@ use us_value::{Effect, Write, effect_len, write_len};
 use us_wire::{put_i64, put_u8, put_value, take_i64, take_u8, take_u8_between};
 
 impl Field for Tag {
-    ghost use Rattle.us_fields.specs.Effects.{tag_spelling, TagFits, tag_at};
+    ghost use Rattle.us_fields.specs.Effects.{tag_encoding, TagFits, tag_at};
     ghost use Rattle.us_value.specs.Lengths.{tag_length};
 
     ghost fits = { TagFits };
 
-    ghost spelling = { λ shape. tag_spelling };
+    ghost encoding = { λ shape. tag_encoding };
 
-    ghost reading = { tag_at };
+    ghost decoder = { tag_at };
 
     ghost size = { λ shape tag. tag_length };
 
@@ -50,11 +50,11 @@ impl Field for Tag {
         Ok(out)
     }
 
-    fn spelled_len(&self, _shape: Shape) -> usize {
+    fn encoded_len(&self, _shape: Shape) -> usize {
         TAG
     }
 
-    fn copied(&self, _alloc: Global) -> Result<Tag, Memory> {
+    fn copied(&self) -> Result<Tag, Memory> {
         Ok(*self)
     }
 }
@@ -168,7 +168,7 @@ fn code_of_effect(effect: &Effect) -> u8
 fn put_tags(out: Vec<u8>, tags: &Items<Tag>, shape: Shape) -> Result<Vec<u8>, Memory>
     requires shape { IsShape shape }
     requires fits { TagsFit shape tags.now }
-    ensures { IfOk result (λ new. new.items ≡ out.items ++ tags_spelling tags.now) }
+    ensures { IfOk result (λ new. new.items ≡ out.items ++ tags_encoding tags.now) }
 {
     put_list(out, tags.as_slice(), shape)
 }
@@ -197,14 +197,14 @@ fn put_effect_fields(mut out: Vec<u8>, effect: &Effect, shape: Shape) -> Result<
 }
 
 impl Field for Effect {
-    ghost use Rattle.us_fields.specs.Effects.{effect_spelling, EffectFits, effect_at};
+    ghost use Rattle.us_fields.specs.Effects.{effect_encoding, EffectFits, effect_at};
     ghost use Rattle.us_value.specs.Lengths.{effect_length};
 
     ghost fits = { EffectFits };
 
-    ghost spelling = { λ shape. effect_spelling };
+    ghost encoding = { λ shape. effect_encoding };
 
-    ghost reading = { effect_at };
+    ghost decoder = { effect_at };
 
     ghost size = { λ shape. effect_length };
 
@@ -226,24 +226,24 @@ impl Field for Effect {
         put_effect_fields(out, self, shape)
     }
 
-    fn spelled_len(&self, _shape: Shape) -> usize {
+    fn encoded_len(&self, _shape: Shape) -> usize {
         effect_len(self)
     }
 
-    fn copied(&self, _alloc: Global) -> Result<Effect, Memory> {
+    fn copied(&self) -> Result<Effect, Memory> {
         self.copy()
     }
 }
 
 impl Field for Write {
-    ghost use Rattle.us_fields.specs.Effects.{write_spelling, WriteFits, write_at};
+    ghost use Rattle.us_fields.specs.Effects.{write_encoding, WriteFits, write_at};
     ghost use Rattle.us_value.specs.Lengths.{write_length};
 
     ghost fits = { WriteFits };
 
-    ghost spelling = { λ shape. write_spelling };
+    ghost encoding = { λ shape. write_encoding };
 
-    ghost reading = { write_at };
+    ghost decoder = { write_at };
 
     ghost size = { λ shape. write_length };
 
@@ -275,11 +275,11 @@ impl Field for Write {
         self.effect.put(out, shape)
     }
 
-    fn spelled_len(&self, _shape: Shape) -> usize {
+    fn encoded_len(&self, _shape: Shape) -> usize {
         write_len(self)
     }
 
-    fn copied(&self, _alloc: Global) -> Result<Write, Memory> {
+    fn copied(&self) -> Result<Write, Memory> {
         self.copy()
     }
 }
@@ -306,7 +306,7 @@ pub fn take_writes(
 pub fn put_writes(out: Vec<u8>, writes: &Items<Write>, shape: Shape) -> Result<Vec<u8>, Memory>
     requires shape { IsShape shape }
     requires fits { WritesFit shape writes.now }
-    ensures { IfOk result (λ new. new.items ≡ out.items ++ writes_spelling writes.now) }
+    ensures { IfOk result (λ new. new.items ≡ out.items ++ writes_encoding writes.now) }
 {
     put_list(out, writes.as_slice(), shape)
 }

@@ -2,7 +2,7 @@ use std::error::Error;
 use std::fmt;
 use us_kind::Memory;
 
-/// Why a frame was not read: it is no spelling, or an allocation failed.
+/// Why a frame was not read: it is no encoding, or an allocation failed.
 #[derive(Clone, Copy, Debug, PartialEq, Eq)]
 pub enum DecodeFault {
     Malformed,

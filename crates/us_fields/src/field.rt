@@ -9,18 +9,18 @@ pub trait Field: Sized + Drop {
     ghost use Rattle.us_base.specs.declared.shape.Shape.{Shape};
     ghost use Rattle.us_base.specs.Shape.{IsShape};
     ghost use Rattle.us_value.specs.Lengths.{capped};
-    ghost use Rattle.us_fields.specs.Reading.{Tells};
+    ghost use Rattle.us_fields.specs.DecodeResult.{Tells};
 
-    /// Whether a value has a spelling in a store of this shape.
+    /// Whether a value has an encoding in a store of this shape.
     ghost fits: { Shape → Self → Type 0 };
 
-    /// How a value is spelled.
-    ghost spelling: { Shape → Self → List ℕ };
+    /// How a value is encoded.
+    ghost encoding: { Shape → Self → List ℕ };
 
     /// Which value stands at a place of an input, and the place behind it.
-    ghost reading: { Shape → List ℕ → ℕ → Option (Self × ℕ) };
+    ghost decoder: { Shape → List ℕ → ℕ → Option (Self × ℕ) };
 
-    /// How many bytes spell a value.
+    /// How many bytes encode a value.
     ghost size: { Shape → Self → ℕ };
 
     /// The value that stands at the place, and the place behind it.
@@ -31,20 +31,20 @@ pub trait Field: Sized + Drop {
         shape: Shape,
     ) -> Result<(Self, usize), DecodeFault>
         requires { IsShape shape }
-        ensures { Tells result (reading shape input.now at) };
+        ensures { Tells result (decoder shape input.now at) };
 
     /// The bytes, and the value behind them.
     fn put(&self, out: Vec<u8>, shape: Shape) -> Result<Vec<u8>, Memory>
         requires shape { IsShape shape }
         requires fits { fits shape self.now }
-        ensures { IfOk result (λ new. new.items ≡ out.items ++ spelling shape self.now) };
+        ensures { IfOk result (λ new. new.items ≡ out.items ++ encoding shape self.now) };
 
-    /// How many bytes spell the value.
-    fn spelled_len(&self, shape: Shape) -> usize
+    /// How many bytes encode the value.
+    fn encoded_len(&self, shape: Shape) -> usize
         requires { IsShape shape }
         ensures { result ≡ capped (size shape self.now) };
 
     /// A copy, which is the same value.
-    fn copied(&self, alloc: Global) -> Result<Self, Memory>
+    fn copied(&self) -> Result<Self, Memory>
         ensures { IfOk result (λ copy. copy ≡ self.now) };
 }

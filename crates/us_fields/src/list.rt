@@ -4,9 +4,9 @@ ghost use Rattle.std.specs.Int.{w16};
 ghost use Rattle.std.specs.List.{AllByRecursion};
 ghost use Rattle.us_base.specs.Shape.{IsShape};
 ghost use Rattle.us_value.specs.Lengths.{capped};
-ghost use Rattle.us_wire.specs.Readings.{number_between_at, many_at, many_spelling};
-ghost use Rattle.us_fields.specs.Reading.{Tells};
-ghost use Rattle.us_fields.specs.Lists.{list_at, list_spelling, longest_list};
+ghost use Rattle.us_wire.specs.Decoders.{number_between_at, many_at, many_encoding};
+ghost use Rattle.us_fields.specs.DecodeResult.{Tells};
+ghost use Rattle.us_fields.specs.Lists.{list_at, list_encoding, longest_list};
 ghost use Rattle.us_fields.specs.Lengths.{sum_of_sizes, list_length};
 
 use crate::{DecodeFault, Field};
@@ -16,7 +16,7 @@ use us_kind::{Items, Memory};
 use us_wire::{put_u16, take_u16};
 
 /// A number of two bytes within bounds, and the place behind it.
-#[tactic(auto, unfolding(us_wire::specs::Readings::number_between_at))]
+#[tactic(auto, unfolding(us_wire::specs::Decoders::number_between_at))]
 fn count_in(input: &[u8], at: usize, least: u16, most: u16) -> Option<(u16, usize)>
     ensures { result ≡ number_between_at w16 least most input.now at }
 {
@@ -36,7 +36,7 @@ fn many_in<T: Field>(
     shape: Shape,
 ) -> Result<(Items<T>, usize), DecodeFault>
     requires { IsShape shape }
-    ensures { Tells result (many_at (T.reading shape) count input.now at) }
+    ensures { Tells result (many_at (T.decoder shape) count input.now at) }
 {
     let mut items = Items::new(alloc);
     let mut next = at;
@@ -63,7 +63,7 @@ pub fn take_list<T: Field>(
     shape: Shape,
 ) -> Result<(Items<T>, usize), DecodeFault>
     requires { IsShape shape }
-    ensures { Tells result (list_at least most (T.reading shape) input.now at) }
+    ensures { Tells result (list_at least most (T.decoder shape) input.now at) }
 {
     let Some((count, at)) = count_in(input, at, least, most) else {
         return Err(DecodeFault::Malformed);
@@ -74,7 +74,7 @@ pub fn take_list<T: Field>(
 fn put_many<T: Field>(out: Vec<u8>, items: &[T], shape: Shape) -> Result<Vec<u8>, Memory>
     requires shape { IsShape shape }
     requires fits { AllByRecursion (T.fits shape) items.now }
-    ensures { IfOk result (λ new. new.items ≡ out.items ++ many_spelling (T.spelling shape) items.now) }
+    ensures { IfOk result (λ new. new.items ≡ out.items ++ many_encoding (T.encoding shape) items.now) }
 {
     let mut out = out;
     for item in items {
@@ -88,32 +88,32 @@ pub fn put_list<T: Field>(out: Vec<u8>, items: &[T], shape: Shape) -> Result<Vec
     requires shape { IsShape shape }
     requires count { length items.now ≤ longest_list }
     requires fits { AllByRecursion (T.fits shape) items.now }
-    ensures { IfOk result (λ new. new.items ≡ out.items ++ list_spelling (T.spelling shape) items.now) }
+    ensures { IfOk result (λ new. new.items ≡ out.items ++ list_encoding (T.encoding shape) items.now) }
 {
     let mut out = out;
     put_u16(&mut out, items.len() as u16)?;
     put_many(out, items, shape)
 }
 
-/// How many bytes spell the items, their count among them.
+/// How many bytes encode the items, their count among them.
 pub fn list_len<T: Field>(items: &[T], shape: Shape) -> usize
     requires { IsShape shape }
     ensures { result ≡ capped (list_length (T.size shape) items.now) }
 {
     let mut total: usize = 0;
     for item in items {
-        total = total.saturating_add(item.spelled_len(shape));
+        total = total.saturating_add(item.encoded_len(shape));
     }
     total.saturating_add(2)
 }
 
-/// Copies of the items.
-pub fn copies_of<T: Field>(alloc: Global, items: &[T]) -> Result<Items<T>, Memory>
+/// A copy of the list, whose memory is the same allocator's.
+pub fn copies_of<T: Field>(items: &Items<T>) -> Result<Items<T>, Memory>
     ensures { IfOk result (λ copies. copies ≡ items.now) }
 {
-    let mut copies = Items::new(alloc);
-    for item in items {
-        copies.push(item.copied(alloc)?)?;
+    let mut copies = Items::new(items.allocator());
+    for item in items.as_slice() {
+        copies.push(item.copied()?)?;
     }
     Ok(copies)
 }

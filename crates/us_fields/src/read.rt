@@ -1,7 +1,7 @@
 //! Items, operations and answers at a place.
 ghost use Rattle.std.specs.Prelude.{◌≡◌, option_map};
-ghost use Rattle.us_fields.specs.Reading.{Tells};
-ghost use Rattle.us_fields.specs.FieldReadings.{id_at, item_at, op_fields_at, op_at, answer_fields_at, answer_at};
+ghost use Rattle.us_fields.specs.DecodeResult.{Tells};
+ghost use Rattle.us_fields.specs.FieldDecoders.{id_at, item_at, op_fields_at, op_at, answer_fields_at, answer_at};
 
 use crate::DecodeFault;
 use crate::codes::{ID_LIMIT, answer_code, op_code};
@@ -12,7 +12,7 @@ use us_value::{Answer, Item, Op};
 use us_wire::{take_i64, take_i128, take_u8_between};
 
 /// An id of 1 to 64 bytes behind its length, and the place behind it.
-#[tactic(auto, unfolding(crate::specs::FieldReadings::id_at))]
+#[tactic(auto, unfolding(crate::specs::FieldDecoders::id_at))]
 fn id_in(input: &[u8], at: usize) -> Option<(&[u8], usize)>
     ensures { option_map (λ read. (read.0.now, read.1)) result ≡ id_at input.now at }
 {
@@ -25,7 +25,7 @@ fn id_in(input: &[u8], at: usize) -> Option<(&[u8], usize)>
 }
 
 /// The item that stands at the place, and the place behind it.
-#[tactic(auto, unfolding(crate::specs::FieldReadings::item_at))]
+#[tactic(auto, unfolding(crate::specs::FieldDecoders::item_at))]
 pub fn take_item(alloc: Global, input: &[u8], at: usize) -> Result<(Item, usize), DecodeFault>
     ensures { Tells result (item_at input.now at) }
 {
@@ -40,7 +40,7 @@ pub fn take_item(alloc: Global, input: &[u8], at: usize) -> Result<(Item, usize)
 }
 
 /// The fields of the operation with this code.
-#[tactic(auto, unfolding(crate::specs::FieldReadings::op_fields_at))]
+#[tactic(auto, unfolding(crate::specs::FieldDecoders::op_fields_at))]
 fn op_fields_in(
     alloc: Global,
     code: u8,
@@ -86,7 +86,7 @@ fn op_fields_in(
 }
 
 /// The operation that stands at the place, and the place behind it.
-#[tactic(auto, unfolding(crate::specs::FieldReadings::op_at))]
+#[tactic(auto, unfolding(crate::specs::FieldDecoders::op_at))]
 pub fn take_op(alloc: Global, input: &[u8], at: usize) -> Result<(Op, usize), DecodeFault>
     ensures { Tells result (op_at input.now at) }
 {
@@ -97,7 +97,7 @@ pub fn take_op(alloc: Global, input: &[u8], at: usize) -> Result<(Op, usize), De
 }
 
 /// The fields of the answer with this code.
-#[tactic(auto, unfolding(crate::specs::FieldReadings::answer_fields_at))]
+#[tactic(auto, unfolding(crate::specs::FieldDecoders::answer_fields_at))]
 fn answer_fields_in(
     alloc: Global,
     code: u8,
@@ -130,7 +130,7 @@ fn answer_fields_in(
 }
 
 /// The answer that stands at the place, and the place behind it.
-#[tactic(auto, unfolding(crate::specs::FieldReadings::answer_at))]
+#[tactic(auto, unfolding(crate::specs::FieldDecoders::answer_at))]
 pub fn take_answer(alloc: Global, input: &[u8], at: usize) -> Result<(Answer, usize), DecodeFault>
     ensures { Tells result (answer_at input.now at) }
 {

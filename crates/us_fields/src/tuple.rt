@@ -1,7 +1,7 @@
 //! Pairs and triples of which packets hold lists.
 ghost use Rattle.std.specs.Prelude.{◌≡◌, ℕ, List};
 ghost use Rattle.us_base.specs.Shape.{IsShape};
-ghost use Rattle.us_fields.specs.Reading.{Tells};
+ghost use Rattle.us_fields.specs.DecodeResult.{Tells};
 ghost use Rattle.us_fields.specs.Lengths.{vector_length};
 ghost use Rattle.us_fields.specs.Tuples.{class_code, class_fields_at, class_at};
 
@@ -39,14 +39,14 @@ pub fn vector_len(shape: Shape) -> usize
 
 /// A transaction's own effect, with its place.
 impl Field for (u8, Effect) {
-    ghost use Rattle.us_fields.specs.Tuples.{own_spelling, OwnFits, own_at};
+    ghost use Rattle.us_fields.specs.Tuples.{own_encoding, OwnFits, own_at};
     ghost use Rattle.us_fields.specs.Lengths.{own_length};
 
     ghost fits = { OwnFits };
 
-    ghost spelling = { λ shape. own_spelling };
+    ghost encoding = { λ shape. own_encoding };
 
-    ghost reading = { own_at };
+    ghost decoder = { own_at };
 
     ghost size = { λ shape. own_length };
 
@@ -67,11 +67,11 @@ impl Field for (u8, Effect) {
         self.1.put(out, shape)
     }
 
-    fn spelled_len(&self, shape: Shape) -> usize {
-        self.1.spelled_len(shape).saturating_add(1)
+    fn encoded_len(&self, shape: Shape) -> usize {
+        self.1.encoded_len(shape).saturating_add(1)
     }
 
-    fn copied(&self, _alloc: Global) -> Result<(u8, Effect), Memory> {
+    fn copied(&self) -> Result<(u8, Effect), Memory> {
         Ok((self.0, self.1.copy()?))
     }
 }
@@ -121,14 +121,14 @@ fn code_of_class(class: Class) -> u8
 
 /// An item that a transaction touches, and the class of what it does there.
 impl Field for (Item, Class) {
-    ghost use Rattle.us_fields.specs.Tuples.{touch_spelling, TouchFits, touch_at};
+    ghost use Rattle.us_fields.specs.Tuples.{touch_encoding, TouchFits, touch_at};
     ghost use Rattle.us_fields.specs.Lengths.{touch_length};
 
     ghost fits = { λ shape. TouchFits };
 
-    ghost spelling = { λ shape. touch_spelling };
+    ghost encoding = { λ shape. touch_encoding };
 
-    ghost reading = { λ shape. touch_at };
+    ghost decoder = { λ shape. touch_at };
 
     ghost size = { λ shape. touch_length };
 
@@ -150,25 +150,25 @@ impl Field for (Item, Class) {
         Ok(out)
     }
 
-    fn spelled_len(&self, _shape: Shape) -> usize {
+    fn encoded_len(&self, _shape: Shape) -> usize {
         self.0.id.len().saturating_add(3)
     }
 
-    fn copied(&self, _alloc: Global) -> Result<(Item, Class), Memory> {
+    fn copied(&self) -> Result<(Item, Class), Memory> {
         Ok((self.0.copy()?, self.1))
     }
 }
 
 /// A committed transaction: its vector and its writes.
 impl Field for (Tid, Vector, Items<Write>) {
-    ghost use Rattle.us_fields.specs.Tuples.{committed_spelling, CommittedFits, committed_at};
+    ghost use Rattle.us_fields.specs.Tuples.{committed_encoding, CommittedFits, committed_at};
     ghost use Rattle.us_fields.specs.Lengths.{committed_length};
 
     ghost fits = { CommittedFits };
 
-    ghost spelling = { committed_spelling };
+    ghost encoding = { committed_encoding };
 
-    ghost reading = { committed_at };
+    ghost decoder = { committed_at };
 
     ghost size = { committed_length };
 
@@ -191,11 +191,11 @@ impl Field for (Tid, Vector, Items<Write>) {
         put_writes(out, &self.2, shape)
     }
 
-    fn spelled_len(&self, shape: Shape) -> usize {
+    fn encoded_len(&self, shape: Shape) -> usize {
         list_len(self.2.as_slice(), shape).saturating_add(TID_LEN + vector_len(shape))
     }
 
-    fn copied(&self, alloc: Global) -> Result<(Tid, Vector, Items<Write>), Memory> {
-        Ok((self.0, self.1, copies_of(alloc, self.2.as_slice())?))
+    fn copied(&self) -> Result<(Tid, Vector, Items<Write>), Memory> {
+        Ok((self.0, self.1, copies_of(&self.2)?))
     }
 }

@@ -1,9 +1,9 @@
 //! The values that an operation answers.
 ghost use Rattle.std.specs.Prelude.{◌≡◌};
 ghost use Rattle.us_wire.specs.Fields.{value_at};
-ghost use Rattle.us_wire.specs.Readings.{many_at};
-ghost use Rattle.us_fields.specs.Reading.{Tells};
-ghost use Rattle.us_fields.specs.FieldReadings.{is_ascending, values_at};
+ghost use Rattle.us_wire.specs.Decoders.{many_at};
+ghost use Rattle.us_fields.specs.DecodeResult.{Tells};
+ghost use Rattle.us_fields.specs.FieldDecoders.{is_ascending, values_at};
 
 use crate::DecodeFault;
 use std::alloc::Global;
@@ -59,7 +59,7 @@ pub(crate) fn ascend(values: &[Bytes]) -> bool
 }
 
 /// Values behind their count of four bytes, ascending, each once.
-#[tactic(auto, unfolding(crate::specs::FieldReadings::values_at))]
+#[tactic(auto, unfolding(crate::specs::FieldDecoders::values_at))]
 pub(crate) fn values_in(
     alloc: Global,
     input: &[u8],

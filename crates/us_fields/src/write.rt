@@ -1,11 +1,11 @@
-//! Writers of fields. Each takes the bytes and gives them back with the field's spelling behind them; where memory runs out they
+//! Writers of fields. Each takes the bytes and gives them back with the field's encoding behind them; where memory runs out they
 //! are gone.
 ghost use Rattle.std.specs.Prelude.{◌≡◌, ◌+◌, ◌<◌, ◌≤◌, ◌^◌, ◌++◌, IfOk, length};
 ghost use Rattle.std.specs.List.{AllByRecursion};
 ghost use Rattle.us_wire.specs.Fields.{value, longest_value};
-ghost use Rattle.us_wire.specs.Readings.{many_spelling};
-ghost use Rattle.us_wire.specs.Whole.{frame_spelling};
-ghost use Rattle.us_fields.specs.Fields.{item_spelling, op_code, op_fields, op_spelling, answer_code, answer_fields, answer_spelling};
+ghost use Rattle.us_wire.specs.Decoders.{many_encoding};
+ghost use Rattle.us_wire.specs.Whole.{frame_encoding};
+ghost use Rattle.us_fields.specs.Fields.{item_encoding, op_code, op_fields, op_encoding, answer_code, answer_fields, answer_encoding};
 ghost use Rattle.us_fields.specs.Fields.{ItemFits, OpFits, AnswerFits};
 
 use crate::codes::{VERSION, answer_code, op_code};
@@ -17,7 +17,7 @@ use us_wire::{put_i64, put_i128, put_u8, put_u32, put_value};
 /// The bytes, and an item behind them.
 pub fn put_item(mut out: Vec<u8>, item: &Item) -> Result<Vec<u8>, Memory>
     requires { ItemFits item.now }
-    ensures { IfOk result (λ new. new.items ≡ out.items ++ item_spelling item.now) }
+    ensures { IfOk result (λ new. new.items ≡ out.items ++ item_encoding item.now) }
 {
     put_u8(&mut out, item.space)?;
     put_u8(&mut out, item.id.len() as u8)?;
@@ -76,7 +76,7 @@ fn put_op_fields(mut out: Vec<u8>, op: &Op) -> Result<Vec<u8>, Memory>
 /// The bytes, and an operation behind them.
 pub fn put_op(mut out: Vec<u8>, op: &Op) -> Result<Vec<u8>, Memory>
     requires { OpFits op.now }
-    ensures { IfOk result (λ new. new.items ≡ out.items ++ op_spelling op.now) }
+    ensures { IfOk result (λ new. new.items ≡ out.items ++ op_encoding op.now) }
 {
     put_u8(&mut out, code_of_op(op))?;
     put_op_fields(out, op)
@@ -84,7 +84,7 @@ pub fn put_op(mut out: Vec<u8>, op: &Op) -> Result<Vec<u8>, Memory>
 
 fn put_values(mut out: Vec<u8>, values: &[Bytes]) -> Result<Vec<u8>, Memory>
     requires { AllByRecursion (λ bytes. length bytes ≤ longest_value) values.now }
-    ensures { IfOk result (λ new. new.items ≡ out.items ++ many_spelling value values.now) }
+    ensures { IfOk result (λ new. new.items ≡ out.items ++ many_encoding value values.now) }
 {
     for value in values {
         put_value(&mut out, value.as_slice())?;
@@ -134,7 +134,7 @@ fn put_answer_fields(mut out: Vec<u8>, answer: &Answer) -> Result<Vec<u8>, Memor
 /// The bytes, and an answer behind them.
 pub fn put_answer(mut out: Vec<u8>, answer: &Answer) -> Result<Vec<u8>, Memory>
     requires { AnswerFits answer.now }
-    ensures { IfOk result (λ new. new.items ≡ out.items ++ answer_spelling answer.now) }
+    ensures { IfOk result (λ new. new.items ≡ out.items ++ answer_encoding answer.now) }
 {
     put_u8(&mut out, code_of_answer(answer))?;
     put_answer_fields(out, answer)
@@ -143,7 +143,7 @@ pub fn put_answer(mut out: Vec<u8>, answer: &Answer) -> Result<Vec<u8>, Memory>
 /// The whole frame with this tag and these fields.
 pub fn frame_of(alloc: Global, tag: u8, fields: &[u8]) -> Result<Vec<u8>, Memory>
     requires { length fields.now + 2 < 2 ^ 32 }
-    ensures { IfOk result (λ frame. frame.items ≡ frame_spelling tag fields.now) }
+    ensures { IfOk result (λ frame. frame.items ≡ frame_encoding tag fields.now) }
 {
     let length = (fields.len() + 2) as u32;
     let mut frame = Vec::with_capacity(alloc, 6 + fields.len())?;

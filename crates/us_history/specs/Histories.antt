@@ -1,7 +1,7 @@
 -- A history: what happened to a store's transactions.
 use Rattle.std.specs.Prelude.{◌≡◌, ℕ, ◌+◌, List, [], ◌∷◌, length, map, filter, Bool, ◌||◌, if◌then◌else◌, Option, Some, None}
 use Rattle.std.specs.List.{list_any, range_with_len}
-use Rattle.us_kind.specs.Words.{tid_eq}
+use Rattle.us_kind.specs.Comparison.{tid_eq}
 use Rattle.us_kind.specs.declared.identity.Tid.{Tid}
 use Rattle.us_value.specs.declared.item.Item.{Item}
 use Rattle.us_value.specs.Values.{is_update}

@@ -1,7 +1,7 @@
 -- The past of a transaction.
 use Rattle.std.specs.Prelude.{ℕ, zero, suc, List, [], ◌∷◌, length, Bool, not, ◌&&◌, ◌||◌, if◌then◌else◌, nat_lt, nat_le, max}
 use Rattle.std.specs.List.{list_any}
-use Rattle.us_kind.specs.Words.{tid_eq}
+use Rattle.us_kind.specs.Comparison.{tid_eq}
 use Rattle.us_base.specs.Vector.{at_most}
 use Rattle.us_exec.specs.declared.SessionName.{SessionName}
 use Rattle.us_exec.specs.declared.Count.{Count}
@@ -24,14 +24,14 @@ is_earlier c t = session_eq c.begun.session t.session && nat_lt c.begun.tid.seq 
 abbrev pub is_in_snapshot : Committed → Begun → Bool
 is_in_snapshot c t = has_own_vector c && at_most c.vector t.snapshot
 
-abbrev pub leads : List Link → Committed → Begun → Bool
-leads links c t = not (tid_eq c.begun.tid t.tid) && (is_linked links c t || (is_earlier c t || is_in_snapshot c t))
+abbrev pub is_step : List Link → Committed → Begun → Bool
+is_step links c t = not (tid_eq c.begun.tid t.tid) && (is_linked links c t || (is_earlier c t || is_in_snapshot c t))
 
 -- by at most so many transactions between them
 abbrev pub reaches_within : ℕ → List Link → List Committed → Committed → Begun → Bool
-reaches_within zero links cs c t = leads links c t
+reaches_within zero links cs c t = is_step links c t
 reaches_within (suc n) links cs c t =
-    leads links c t || list_any (λ d. leads links c d.begun && reaches_within n links cs d t) cs
+    is_step links c t || list_any (λ d. is_step links c d.begun && reaches_within n links cs d t) cs
 
 abbrev pub reaches : List Link → List Committed → Committed → Begun → Bool
 reaches links cs c t = reaches_within (length cs) links cs c t
@@ -42,12 +42,12 @@ count_of test s [] = 0
 count_of test s (c ∷ cs) = if session_eq c.begun.session s && test c then max c.number (count_of test s cs) else count_of test s cs
 
 -- a session is named where some of its transactions are counted
-abbrev pub counted : SessionName → ℕ → List Count → List Count
-counted s n past = if nat_lt 0 n then record { session = s; count = n } ∷ past else past
+abbrev pub with_count : SessionName → ℕ → List Count → List Count
+with_count s n past = if nat_lt 0 n then record { session = s; count = n } ∷ past else past
 
 abbrev pub counts_of : (Committed → Bool) → List Committed → List SessionName → List Count
 counts_of test cs [] = []
-counts_of test cs (s ∷ ss) = counted s (count_of test s cs) (counts_of test cs ss)
+counts_of test cs (s ∷ ss) = with_count s (count_of test s cs) (counts_of test cs ss)
 
 -- the sessions of the committed transactions, ascending, each once
 abbrev pub with_session : SessionName → List SessionName → List SessionName
@@ -67,4 +67,4 @@ past_of h t = counts_of (λ c. reaches h.links h.committed c t) h.committed (ses
 -- transaction writes nothing; B goes on from it and commits a write; C sees the write, so that C's past holds A's transaction,
 -- from which no one step leads to C. The form that lasts is this one, then closed over the links of the sessions found.
 abbrev pub direct_past : History → Begun → List Count
-direct_past h t = counts_of (λ c. leads h.links c t) h.committed (sessions_of h.committed)
+direct_past h t = counts_of (λ c. is_step h.links c t) h.committed (sessions_of h.committed)

@@ -1,7 +1,7 @@
 -- Membership, and lists that go on.
 use Rattle.std.proofs.Common.{◌≡◌, ◌⊎◌, ℕ, zero, suc, List, [], ◌∷◌, ◌++◌, Bool, true, false, refl, sym, ap, ◌∙◌, subst, inl, inr, cond, ⊎_elim, true≢false, append-nil, append_assoc}
 use Rattle.std.specs.Prelude.{filter, slice_get, Some, map}
-use Rattle.us_kind.specs.Words.{In}
+use Rattle.us_kind.specs.Comparison.{In}
 
 pub in_front : {X : Type 0} (x : X) (xs ys : List X) → In x xs → In x (xs ++ ys)
 in_front x [] ys h = absurd h
@@ -80,22 +80,22 @@ in_got (y ∷ xs) zero x e = inl (cc)
 in_got (y ∷ xs) (suc k) x e = inr (in_got xs k x e)
 
 -- ys goes on from xs
-pub record GoesOn {X : Type 0} (xs ys : List X) : Type 0 where
+pub record IsPrefix {X : Type 0} (xs ys : List X) : Type 0 where
   pub rest : List X
   pub is : ys ≡ xs ++ rest
 
-abbrev pub goes_nowhere : {X : Type 0} (xs : List X) → GoesOn xs xs
-goes_nowhere xs = record { rest = []; is = sym (append-nil xs) }
+abbrev pub prefix_refl : {X : Type 0} (xs : List X) → IsPrefix xs xs
+prefix_refl xs = record { rest = []; is = sym (append-nil xs) }
 
-abbrev pub goes_by : {X : Type 0} (xs ys : List X) → GoesOn xs (xs ++ ys)
-goes_by xs ys = record { rest = ys; is = refl }
+abbrev pub prefix_append : {X : Type 0} (xs ys : List X) → IsPrefix xs (xs ++ ys)
+prefix_append xs ys = record { rest = ys; is = refl }
 
-abbrev pub goes_further : {X : Type 0} {xs ys zs : List X} → GoesOn xs ys → GoesOn ys zs → GoesOn xs zs
-goes_further {xs = xs} g h = record { rest = g.rest ++ h.rest; is = h.is ∙ ap (λ l. l ++ h.rest) g.is ∙ append_assoc xs g.rest h.rest }
+abbrev pub prefix_trans : {X : Type 0} {xs ys zs : List X} → IsPrefix xs ys → IsPrefix ys zs → IsPrefix xs zs
+prefix_trans {xs = xs} g h = record { rest = g.rest ++ h.rest; is = h.is ∙ ap (λ l. l ++ h.rest) g.is ∙ append_assoc xs g.rest h.rest }
 
-pub in_later : {X : Type 0} {xs ys : List X} (x : X) → GoesOn xs ys → In x xs → In x ys
+pub in_later : {X : Type 0} {xs ys : List X} (x : X) → IsPrefix xs ys → In x xs → In x ys
 in_later {xs = xs} x g i = subst (In x) (sym g.is) (in_front x xs g.rest i)
 
 -- what stands in the longer list is old or new
-pub in_grown : {X : Type 0} {xs ys : List X} (x : X) (g : GoesOn xs ys) → In x ys → In x xs ⊎ In x g.rest
+pub in_grown : {X : Type 0} {xs ys : List X} (x : X) (g : IsPrefix xs ys) → In x ys → In x xs ⊎ In x g.rest
 in_grown {xs = xs} x g i = in_either x xs g.rest (subst (In x) g.is i)

@@ -2,7 +2,7 @@
 use Rattle.std.proofs.Common.{◌≡◌, ℕ, zero, suc, ◌<◌, Bool, List, [], ◌∷◌, Option, Some, length, get_or, set, swap, refl, ap, subst, ◌∙◌, arith, IsPermutation}
 use Rattle.std.proofs.lemmas.List.Sorted.{IsPermutation-keeps}
 use Rattle.us_kind.specs.Updates.{Update, Stamped, WasPrepared, state_after, Commutes, OrderIsFree, AnswersInOrder, AnswersInAnyOrder}
-use Rattle.us_kind.specs.Words.{In, tag_of}
+use Rattle.us_kind.specs.Comparison.{In, tag_of}
 use Rattle.us_kind.specs.declared.identity.Stamp.{Stamp}
 use Rattle.us_kind.specs.declared.identity.Tag.{Tag}
 

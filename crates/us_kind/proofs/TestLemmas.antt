@@ -2,7 +2,7 @@
 use Rattle.std.proofs.Common.{◌≡◌, ℕ, List, [], ◌∷◌, Bool, true, false, refl, sym, arith, true≢false}
 use Rattle.std.proofs.lemmas.Bool.{eqb-true, and_parts}
 use Rattle.std.proofs.lemmas.Bool.Decides.{nat_tests}
-use Rattle.us_kind.specs.Words.{bytes_eq, bytes_less, lex, tid_eq, tid_less}
+use Rattle.us_kind.specs.Comparison.{bytes_eq, bytes_less, lex, tid_eq, tid_less}
 use Rattle.us_kind.specs.declared.identity.Tid.{Tid}
 
 pub bytes_eq-true : (xs ys : List ℕ) → bytes_eq xs ys ≡ true → xs ≡ ys

@@ -53,7 +53,8 @@ module _ {K X : Type 0} {R : K → K → Ordering} (o : IsTotalOrder R) (same : 
           on true e = sym (is x e)
           on false e = refl
 
-      pub value_at-with_value : (m : FinMap R X) (k : K) (x : X) (q : K) → value_at default (with_value default is_default m k x) q ≡ cond (eq_by_cmp R q k) x (value_at default m q)
+      pub value_at-with_value : (m : FinMap R X) (k : K) (x : X) (q : K)
+          → value_at default (with_value default is_default m k x) q ≡ cond (eq_by_cmp R q k) x (value_at default m q)
       value_at-with_value m k x q = ap (λ r. unwrap_or r default) (get-with_value m k x q) ∙ on (eq_by_cmp R q k)
         where
           on : (b : Bool) → unwrap_or (cond b (held x) (get m q)) default ≡ cond b x (value_at default m q)
@@ -66,7 +67,8 @@ module _ {K X : Type 0} {R : K → K → Ordering} (o : IsTotalOrder R) (same : 
           cond (eq_by_cmp R q b) (held (g (cond (eq_by_cmp R b a) (f (value_at default m a)) (value_at default m b))))
           (cond (eq_by_cmp R q a) (held (f (value_at default m a))) (get m q))
 
-      get-two_changes : (m : FinMap R X) (a b : K) (f g : X → X) (q : K) → get (changed default is_default (changed default is_default m a f) b g) q ≡ two_changes m a b f g q
+      get-two_changes : (m : FinMap R X) (a b : K) (f g : X → X) (q : K)
+          → get (changed default is_default (changed default is_default m a f) b g) q ≡ two_changes m a b f g q
       unfolding two_changes
       get-two_changes m a b f g q =
           let once = changed default is_default m a f in
@@ -86,7 +88,8 @@ module _ {K X : Type 0} {R : K → K → Ordering} (o : IsTotalOrder R) (same : 
           at_b = value_at default m b
 
           on : (x y v w : Bool) → eq_by_cmp R q b ≡ x → eq_by_cmp R q a ≡ y → eq_by_cmp R b a ≡ v → eq_by_cmp R a b ≡ w
-              → cond x (held (g (cond v (f at_a) at_b))) (cond y (held (f at_a)) (get m q)) ≡ cond y (held (f (cond w (g at_b) at_a))) (cond x (held (g at_b)) (get m q))
+              → cond x (held (g (cond v (f at_a) at_b))) (cond y (held (f at_a)) (get m q))
+              ≡ cond y (held (f (cond w (g at_b) at_a))) (cond x (held (g at_b)) (get m q))
           on false false v w ex ey ev ew = refl
           on true true true true ex ey ev ew = ap held (turn at_a ∙ ap (λ k. f (g (value_at default m k))) (sym (key_same o same b a ev)))
           on true true false w ex ey ev ew = absurd (true≢false (sym (subst (λ k. eq_by_cmp R k a ≡ true) (key_same o same q b ex) ey) ∙ ev))
@@ -98,4 +101,5 @@ module _ {K X : Type 0} {R : K → K → Ordering} (o : IsTotalOrder R) (same : 
 
       pub changed-commutes : (m : FinMap R X) (a b : K) (f g : X → X) → ((x : X) → g (f x) ≡ f (g x))
           → changed default is_default (changed default is_default m a f) b g ≡ changed default is_default (changed default is_default m b g) a f
-      changed-commutes m a b f g turn = same_map o same _ _ (λ q. get-two_changes m a b f g q ∙ turned m a b f g turn q ∙ sym (get-two_changes m b a g f q))
+      changed-commutes m a b f g turn = same_map o same _ _ (λ q. get-two_changes m a b f g q ∙ turned m a b f g turn q
+          ∙ sym (get-two_changes m b a g f q))

@@ -13,7 +13,7 @@ use Rattle.std.specs.Ordering.{nat_cmp}
 use Rattle.us_kind.specs.Ascending.{Rises}
 use Rattle.us_kind.specs.Orders.{bytes_less-cmp}
 use Rattle.us_kind.specs.Updates.{All}
-use Rattle.us_kind.specs.Words.{In, bytes_less}
+use Rattle.us_kind.specs.Comparison.{In, bytes_less}
 use Rattle.us_kind.specs.Defaults.{value_at, key_same, key_itself}
 
 -- the keys of the entries whose values pass
@@ -21,7 +21,7 @@ abbrev pub keys_where : {K X : Type 0} → (X → Bool) → List (K × X) → Li
 keys_where p es = map (λ e. e.0) (filter (λ e. p e.1) es)
 
 -- the map holds a value that passes at the key
-record Found {K X : Type 0} (R : K → K → Ordering) (p : X → Bool) (es : List (K × X)) (k : K) : Type 0 where
+record Passing {K X : Type 0} (R : K → K → Ordering) (p : X → Bool) (es : List (K × X)) (k : K) : Type 0 where
   value : X
   found : find R k es ≡ Some value
   passes : p value ≡ true
@@ -58,22 +58,25 @@ module _ {K X : Type 0} {R : K → K → Ordering} (o : IsTotalOrder R) (p : X �
   apart x k v [] below e = absurd (cc)
   apart x k v (f ∷ es) below e = on (eq_by_cmp R k x) (eq_by_cmp R k f.0) refl refl e (apart x k v es (second _ _ below))
     where
-      on : (b c : Bool) → eq_by_cmp R k x ≡ b → eq_by_cmp R k f.0 ≡ c → cond c (Some f.1) (find R k es) ≡ Some v → (find R k es ≡ Some v → eq_by_cmp R k x ≡ false) → eq_by_cmp R k x ≡ false
+      on : (b c : Bool) → eq_by_cmp R k x ≡ b → eq_by_cmp R k f.0 ≡ c → cond c (Some f.1) (find R k es) ≡ Some v
+          → (find R k es ≡ Some v → eq_by_cmp R k x ≡ false) → eq_by_cmp R k x ≡ false
       on false c eb ec e again = eb
       on true true eb ec e again = absurd (not_both o k x f.0 (equal _ eb) (equal _ ec) (less _ (first _ _ below)))
       on true false eb ec e again = again e
 
-  in_keys : (es : List (K × X)) (k : K) → T (is_sorted R es) → In k (keys_where p es) → Found R p es k
+  in_keys : (es : List (K × X)) (k : K) → T (is_sorted R es) → In k (keys_where p es) → Passing R p es k
   in_keys [] k sorted i = absurd i
   in_keys (e ∷ es) k sorted i = on (p e.1) refl i (in_keys es k (second _ _ sorted))
     where
-      later : Found R p es k → Found R p (e ∷ es) k
+      later : Passing R p es k → Passing R p (e ∷ es) k
       later h =
           let no = apart e.0 k h.value es (first _ _ sorted) h.found in
           record { value = h.value; found = ap (λ b. cond b (Some e.1) (find R k es)) no ∙ h.found; passes = h.passes }
 
-      on : (b : Bool) → p e.1 ≡ b → In k (map (λ e. e.0) (cond b (e ∷ filter (λ e. p e.1) es) (filter (λ e. p e.1) es))) → (In k (keys_where p es) → Found R p es k) → Found R p (e ∷ es) k
-      on true t (inl s) again = record { value = e.1; found = ap (λ b. cond b (Some e.1) (find R k es)) (subst (λ q. eq_by_cmp R q e.0 ≡ true) s (key_itself o e.0)); passes = t }
+      on : (b : Bool) → p e.1 ≡ b → In k (map (λ e. e.0) (cond b (e ∷ filter (λ e. p e.1) es) (filter (λ e. p e.1) es)))
+          → (In k (keys_where p es) → Passing R p es k) → Passing R p (e ∷ es) k
+      on true t (inl s) again =
+          record { value = e.1; found = ap (λ b. cond b (Some e.1) (find R k es)) (subst (λ q. eq_by_cmp R q e.0 ≡ true) s (key_itself o e.0)); passes = t }
       on true t (inr i) again = later (again i)
       on false t i again = later (again i)
 
@@ -92,7 +95,8 @@ module _ {K X : Type 0} {R : K → K → Ordering} (o : IsTotalOrder R) (same : 
           by true = inr i
           by false = i
 
-      on : (b : Bool) → eq_by_cmp R k f.0 ≡ b → cond b (Some f.1) (find R k es) ≡ Some v → (find R k es ≡ Some v → p v ≡ true → In k (keys_where p es)) → In k (keys_where p (f ∷ es))
+      on : (b : Bool) → eq_by_cmp R k f.0 ≡ b → cond b (Some f.1) (find R k es) ≡ Some v → (find R k es ≡ Some v → p v ≡ true → In k (keys_where p es))
+          → In k (keys_where p (f ∷ es))
       on true tie e again = here (cc) (sym (key_same o same k f.0 tie))
       on false tie e again = later (again e t)
 
@@ -115,7 +119,8 @@ pub any-keys_where : {K X : Type 0} (p : X → Bool) (es : List (K × X)) → li
 any-keys_where p [] h = absurd (cc)
 any-keys_where {K} p (e ∷ es) h = on (p e.1) h (any-keys_where p es)
   where
-    on : (b : Bool) → (b || list_any (λ e. p e.1) es) ≡ true → (list_any (λ e. p e.1) es ≡ true → (k : K) × In k (keys_where p es)) → (k : K) × In k (map (λ e. e.0) (cond b (e ∷ filter (λ e. p e.1) es) (filter (λ e. p e.1) es)))
+    on : (b : Bool) → (b || list_any (λ e. p e.1) es) ≡ true → (list_any (λ e. p e.1) es ≡ true → (k : K) × In k (keys_where p es))
+        → (k : K) × In k (map (λ e. e.0) (cond b (e ∷ filter (λ e. p e.1) es) (filter (λ e. p e.1) es)))
     on true h again = (e.0, inl refl)
     on false h again = again h
 
@@ -123,16 +128,19 @@ pub keys_where-any : {K X : Type 0} (p : X → Bool) (es : List (K × X)) (k : K
 keys_where-any p [] k i = absurd i
 keys_where-any p (e ∷ es) k i = on (p e.1) i (keys_where-any p es k)
   where
-    on : (b : Bool) → In k (map (λ e. e.0) (cond b (e ∷ filter (λ e. p e.1) es) (filter (λ e. p e.1) es))) → (In k (keys_where p es) → list_any (λ e. p e.1) es ≡ true) → (b || list_any (λ e. p e.1) es) ≡ true
+    on : (b : Bool) → In k (map (λ e. e.0) (cond b (e ∷ filter (λ e. p e.1) es) (filter (λ e. p e.1) es)))
+        → (In k (keys_where p es) → list_any (λ e. p e.1) es ≡ true) → (b || list_any (λ e. p e.1) es) ≡ true
     on true i again = refl
     on false i again = again i
 
 -- keys of bytes ascend
-all_above : {X : Type 0} (p : X → Bool) (x : List ℕ) (es : List (List ℕ × X)) → T (below_all (slice_cmp nat_cmp) x es) → All (λ y. bytes_less x y ≡ true) (keys_where p es)
+all_above : {X : Type 0} (p : X → Bool) (x : List ℕ) (es : List (List ℕ × X)) → T (below_all (slice_cmp nat_cmp) x es)
+    → All (λ y. bytes_less x y ≡ true) (keys_where p es)
 all_above p x [] below = tt
 all_above {X} p x (e ∷ es) below = on (p e.1) (all_above p x es (second _ _ below))
   where
-    on : (b : Bool) → All (λ y. bytes_less x y ≡ true) (keys_where p es) → All (λ y. bytes_less x y ≡ true) (map (λ (e : List ℕ × X). e.0) (cond b (e ∷ filter (λ e. p e.1) es) (filter (λ e. p e.1) es)))
+    on : (b : Bool) → All (λ y. bytes_less x y ≡ true) (keys_where p es)
+        → All (λ y. bytes_less x y ≡ true) (map (λ (e : List ℕ × X). e.0) (cond b (e ∷ filter (λ e. p e.1) es) (filter (λ e. p e.1) es)))
     on true rest = (sym (bytes_less-cmp x e.0) ∙ is_true _ (first _ _ below), rest)
     on false rest = rest
 

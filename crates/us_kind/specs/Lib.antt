@@ -5,4 +5,4 @@ pub mod Keys
 pub mod Orders
 pub mod Tags
 pub mod Updates
-pub mod Words
+pub mod Comparison

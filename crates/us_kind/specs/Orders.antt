@@ -6,7 +6,7 @@ use Rattle.std.specs.Cmp.Lexicographic.{slice_cmp}
 use Rattle.std.specs.Ordering.{nat_cmp, is_lt, ordering_then}
 use Rattle.std.specs.declared.cmp.Ordering.{Ordering}
 use Rattle.std.specs.declared.cmp.Ordering.TheVariants.{Less, Equal, Greater}
-use Rattle.us_kind.specs.Words.{lex, bytes_less, stamp_lex}
+use Rattle.us_kind.specs.Comparison.{lex, bytes_less, stamp_lex}
 use Rattle.us_kind.specs.declared.identity.Stamp.{Stamp}
 
 pub lex_trans : (a b c : ℕ) (r s t : Bool) → lex a b r ≡ true → lex b c s ≡ true → (r ≡ true → s ≡ true → t ≡ true) → lex a c t ≡ true
@@ -46,7 +46,8 @@ bytes_same [] (y ∷ ys) h k = absurd (cc)
 bytes_same (x ∷ xs) [] h k = absurd (cc)
 bytes_same (x ∷ xs) (y ∷ ys) h k = let e = lex_ties x y _ _ h k in λ i. e.same i ∷ bytes_same xs ys e.first e.second i
 
-pub stamp_trans : (a b c : Stamp) (r s t : Bool) → stamp_lex a b r ≡ true → stamp_lex b c s ≡ true → (r ≡ true → s ≡ true → t ≡ true) → stamp_lex a c t ≡ true
+pub stamp_trans : (a b c : Stamp) (r s t : Bool) → stamp_lex a b r ≡ true → stamp_lex b c s ≡ true → (r ≡ true → s ≡ true → t ≡ true)
+    → stamp_lex a c t ≡ true
 stamp_trans a b c r s t h k rest =
     lex_trans a.sum b.sum c.sum _ _ _ h k
     (λ h k. lex_trans a.tid.site b.tid.site c.tid.site _ _ _ h k

@@ -25,7 +25,8 @@ tid_cmp-total =
     (then_total {R = on (λ (a : Tid). a.coord) nat_cmp} (on_total (λ (a : Tid). a.coord) nat_cmp_total) (on_total (λ (a : Tid). a.seq) nat_cmp_total))
 
 pub tag_cmp-total : IsTotalOrder tag_cmp
-tag_cmp-total = then_total {R = on (λ (a : Tag). a.tid) tid_cmp} (on_total (λ (a : Tag). a.tid) tid_cmp-total) (on_total (λ (a : Tag). a.place) nat_cmp_total)
+tag_cmp-total =
+    then_total {R = on (λ (a : Tag). a.tid) tid_cmp} (on_total (λ (a : Tag). a.tid) tid_cmp-total) (on_total (λ (a : Tag). a.place) nat_cmp_total)
 
 -- tags that tie are one
 pub tag_cmp-IsAntisymmetric : IsAntisymmetric tag_cmp

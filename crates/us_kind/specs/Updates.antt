@@ -1,6 +1,6 @@
 -- Updates of a replicated type, and what its laws say of them.
 use Rattle.std.specs.Prelude.{◌≡◌, ◌≢◌, ℕ, ◌+◌, ◌≤◌, List, [], ◌∷◌, Bool, true, Option, Some, filter, map, IsPermutation}
-use Rattle.us_kind.specs.Words.{In, tag_of, stamp_less}
+use Rattle.us_kind.specs.Comparison.{In, tag_of, stamp_less}
 use Rattle.us_kind.specs.declared.identity.Stamp.{Stamp}
 use Rattle.us_kind.specs.declared.identity.Tag.{Tag}
 
@@ -34,9 +34,9 @@ abbrev pub Commutes : {S E : Type 0} → (S → E → Stamp → S) → Type 0
 Commutes {S} {E} updated = (s : S) (a b : E) (m n : Stamp) → updated (updated s a m) b n ≡ updated (updated s b n) a m
 
 -- a state counts at most one more update after each
-pub record CountsUpdates {S E : Type 0} (initially : S) (updated : S → E → Stamp → S) (counted : S → ℕ) : Type 0 where
-  pub none : counted initially ≡ 0
-  pub one_more : (s : S) (e : E) (m : Stamp) → counted (updated s e m) ≤ counted s + 1
+pub record CountsUpdates {S E : Type 0} (initially : S) (updated : S → E → Stamp → S) (update_count : S → ℕ) : Type 0 where
+  pub none : update_count initially ≡ 0
+  pub one_more : (s : S) (e : E) (m : Stamp) → update_count (updated s e m) ≤ update_count s + 1
 
 -- P holds of each of these
 abbrev pub All : {X : Type 0} → (X → Type 0) → List X → Type 0
@@ -76,7 +76,8 @@ pub record IsHistory {S O E : Type 0} (initially : S) (updated : S → E → Sta
   pub made : (u : Stamped O E) → In u us → WasPrepared initially updated prepared after us u
 
 -- the state after a history, applied in arbitration order, answers as the definition
-abbrev pub AnswersInOrder : {S O E A : Type 0} → S → (S → E → Stamp → S) → (O → S → A) → (Tag → O → S → Option E) → (O → List (Update O) → (Tag → Tag → Bool) → A) → Type 0
+abbrev pub AnswersInOrder : {S O E A : Type 0} → S → (S → E → Stamp → S) → (O → S → A) → (Tag → O → S → Option E)
+    → (O → List (Update O) → (Tag → Tag → Bool) → A) → Type 0
 AnswersInOrder {S} {O} {E} {A} initially updated answered prepared value =
     (after : Tag → Tag → Bool) (us : List (Stamped O E)) → IsHistory initially updated prepared after us
     → (op : O) → answered op (state_after updated initially us) ≡ value op (updates_of us) after
@@ -99,7 +100,8 @@ pub record IsHistoryInAnyOrder {S O E : Type 0} (initially : S) (updated : S →
   pub made : (u : Stamped O E) → In u us → WasPreparedInAnyOrder initially updated prepared after us u
 
 -- the state after a history, applied in any order, answers as the definition
-abbrev pub AnswersInAnyOrder : {S O E A : Type 0} → S → (S → E → Stamp → S) → (O → S → A) → (Tag → O → S → Option E) → (O → List (Update O) → (Tag → Tag → Bool) → A) → Type 0
+abbrev pub AnswersInAnyOrder : {S O E A : Type 0} → S → (S → E → Stamp → S) → (O → S → A) → (Tag → O → S → Option E)
+    → (O → List (Update O) → (Tag → Tag → Bool) → A) → Type 0
 AnswersInAnyOrder {S} {O} {E} {A} initially updated answered prepared value =
     (after : Tag → Tag → Bool) (us vs : List (Stamped O E)) → IsHistoryInAnyOrder initially updated prepared after us → IsPermutation us vs
     → (op : O) → answered op (state_after updated initially vs) ≡ value op (updates_of us) after

@@ -5,7 +5,7 @@ ghost use Rattle.std.specs.Cmp.{partial_order_from_own_ties};
 ghost use Rattle.std.specs.Cmp.Rules.{comparing};
 ghost use Rattle.std.specs.Cmp.Lexicographic.{pointwise, slice_cmp};
 ghost use Rattle.std.specs.Ordering.{nat_cmp, as_partial_cmp};
-ghost use Rattle.us_kind.specs.Words.{bytes_eq};
+ghost use Rattle.us_kind.specs.Comparison.{bytes_eq};
 
 use crate::Memory;
 use std::alloc::{AllocError, Global};

@@ -1,5 +1,5 @@
 ghost use Rattle.std.specs.Prelude.{◌≡◌};
-ghost use Rattle.us_kind.specs.Words.{tag_of, tid_eq};
+ghost use Rattle.us_kind.specs.Comparison.{tag_of, tid_eq};
 
 /// A transaction: the site and the coordinator that began it, and its number there.
 ///

@@ -46,6 +46,11 @@ impl<T: Drop> Items<T> {
         self.items
     }
 
+    /// The allocator of the list's memory, from which a copy may take its own.
+    pub fn allocator(&self) -> Global {
+        *self.items.allocator()
+    }
+
     pub fn as_slice(&self) -> &[T]
         ensures { result.now ≡ self.now }
     {

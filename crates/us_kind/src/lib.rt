@@ -1,4 +1,4 @@
-//! What all crates share: want of memory, lists that contracts see as lists, and the identities of
+//! What all crates share: out of memory, lists that contracts see as lists, and the identities of
 //! transactions and updates.
 #![tactic(auto)]
 

@@ -5,7 +5,7 @@ use std::alloc::Global;
 ///
 /// `initial` is the state before any update. `answer` says what an operation answers at a state. `prepare` gives the
 /// effect of an update at the state that it meets, and `None` for a reading operation. `apply` makes an effect part of
-/// a state under the stamp of its update; after want of memory the state is as before.
+/// a state under the stamp of its update; after a failed allocation the state is as before.
 pub trait Replicated {
     ghost use Rattle.std.specs.Prelude.{◌≡◌, ℕ, ◌^◌, ◌<◌, ◌↔◌, Bool, true, List, Option, None, IfOk, OnOk, OnErr};
     ghost use Rattle.us_kind.specs.declared.identity.Tag.{Tag};
@@ -36,7 +36,7 @@ pub trait Replicated {
     ghost is_reading: { Self.Op → Bool };
 
     /// How many updates a state counts, of those that were applied.
-    ghost counted: { Self.State → ℕ };
+    ghost update_count: { Self.State → ℕ };
 
     /// The definition: what an operation answers over these updates in arbitration order, under the relation "after".
     ghost value: { Self.Op → List (Update Self.Op) → (Tag → Tag → Bool) → Self.Answer };
@@ -62,7 +62,7 @@ pub trait Replicated {
         effect: &Self::Effect,
         stamp: Stamp,
     ) -> Result<(), Memory>
-        requires { counted state.old < 2 ^ 60 }
+        requires { update_count state.old < 2 ^ 60 }
         ensures ok { OnOk result (state.new ≡ updated state.old effect.now stamp) }
         ensures err { OnErr result (state.new ≡ state.old) };
 
@@ -73,7 +73,7 @@ pub trait Replicated {
     ghost reads: { (tag : Tag) (op : Self.Op) (s : Self.State) → (prepared tag op s ≡ None) ↔ (is_reading op ≡ true) };
 
     /// A state counts no more updates than were applied to it.
-    ghost counts: { CountsUpdates initially updated counted };
+    ghost counts: { CountsUpdates initially updated update_count };
 
     /// A history, applied in arbitration order, answers each operation as the definition.
     ghost in_order: { AnswersInOrder initially updated answered prepared value };

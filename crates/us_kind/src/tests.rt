@@ -36,6 +36,9 @@ fn items_calls(rt: HostRuntime) -> Result<(), Fail> {
     assert_eq!(rt; items.len(), 3);
     assert_eq!(rt; items.as_slice(), [4, 5, 6].as_slice());
     assert_eq!(rt; items.remove(1), 5);
+    let mut other = Items::new(items.allocator());
+    other.push(7u8)?;
+    assert_eq!(rt; other.as_slice(), [7].as_slice());
     let rest = Items::of(items.into_vec());
     assert_eq!(rt; rest.as_slice(), [4, 6].as_slice());
     Ok(())
@@ -61,7 +64,7 @@ fn stamps_and_tags(rt: HostRuntime) -> Result<(), Fail> {
 }
 
 #[test]
-fn want_of_memory_in_words(rt: HostRuntime) -> Result<(), Fail> {
+fn out_of_memory_in_words(rt: HostRuntime) -> Result<(), Fail> {
     let text = format!(in rt.alloc(); "{Memory}")?;
     assert_eq!(rt; text.as_str().as_bytes(), b"out of memory".as_slice());
     Ok(())

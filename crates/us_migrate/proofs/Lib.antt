@@ -1,3 +1,3 @@
-pub mod Spelled
+pub mod Encoded
 pub mod Loops
 pub mod Writing

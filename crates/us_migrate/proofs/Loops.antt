@@ -5,9 +5,9 @@ use Rattle.std.specs.Int.{w64}
 use Rattle.us_base.specs.declared.shape.Shape.{Shape}
 use Rattle.us_base.specs.Shape.{sites_of}
 use Rattle.us_base.specs.Vector.{with_entry, zero as zeros}
-use Rattle.us_wire.specs.Readings.{and_then, many_at, number_between_at, largest_number}
+use Rattle.us_wire.specs.Decoders.{and_then, many_at, number_between_at, largest_number}
 use Rattle.us_wire.proofs.Combined.{in_front, many_at-start, many_at-turn, many_at-stop, many_at-end}
-use Rattle.us_migrate.specs.Readings.{filled, vector_at}
+use Rattle.us_migrate.specs.Decoders.{filled, vector_at}
 
 take-with_entry : (v : List ℕ) (i x : ℕ) → i < length v → take (i + 1) (with_entry v i x) ≡ take i v ++ x ∷ []
 unfolding with_entry

@@ -5,8 +5,8 @@ use Rattle.std.specs.Int.{w64, to_be_bytes}
 use Rattle.std.proofs.lemmas.List.{take_at}
 use Rattle.std.proofs.Math.Seq.{take-suc}
 use Rattle.us_base.specs.Vector.{entry}
-use Rattle.us_wire.specs.Readings.{many_spelling}
-use Rattle.us_wire.proofs.Combined.{many_spelling-push}
+use Rattle.us_wire.specs.Decoders.{many_encoding}
+use Rattle.us_wire.proofs.Combined.{many_encoding-push}
 
 pub on_ok : {X E : Type 0} (r : Result X E) (P Q : Type 0) → (P → Q) → OnOk r P → OnOk r Q
 on_ok (Ok x) P Q to h = to h
@@ -31,20 +31,20 @@ front_stays old more new h =
     shorter (suc m) (suc n) [] le = refl
     shorter (suc m) (suc n) (x ∷ xs) le = ap (λ (w : List ℕ). x ∷ w) (shorter m n xs (omega arith))
 
-pub none_written : (v old : List ℕ) → old ≡ old ++ many_spelling (to_be_bytes w64) (take 0 v)
-unfolding many_spelling
+pub none_written : (v old : List ℕ) → old ≡ old ++ many_encoding (to_be_bytes w64) (take 0 v)
+unfolding many_encoding
 none_written v old = sym (append-nil old)
 
-pub one_more_written : (v : List ℕ) (i n : ℕ) (old now new : List ℕ) → i < length v → n ≡ entry v i → now ≡ old ++ many_spelling (to_be_bytes w64) (take i v) → new ≡ now ++ to_be_bytes w64 n
-    → new ≡ old ++ many_spelling (to_be_bytes w64) (take (i + 1) v)
+pub one_more_written : (v : List ℕ) (i n : ℕ) (old now new : List ℕ) → i < length v → n ≡ entry v i → now ≡ old ++ many_encoding (to_be_bytes w64) (take i v) → new ≡ now ++ to_be_bytes w64 n
+    → new ≡ old ++ many_encoding (to_be_bytes w64) (take (i + 1) v)
 one_more_written v i n old now new lt is so_far written =
     let one : i + 1 ≡ suc i = omega arith in
     let taken : take (i + 1) v ≡ take i v ++ n ∷ [] = ap (λ (k : ℕ). take k v) one ∙ take-suc v i 0 lt ∙ ap (λ (x : ℕ). take i v ++ x ∷ []) (sym is) in
     written
     ∙ ap (λ (xs : List ℕ). xs ++ to_be_bytes w64 n) so_far
-    ∙ append_assoc old (many_spelling (to_be_bytes w64) (take i v)) (to_be_bytes w64 n)
-    ∙ ap (λ (xs : List ℕ). old ++ xs) (sym (many_spelling-push (to_be_bytes w64) (take i v) n))
-    ∙ ap (λ (xs : List ℕ). old ++ many_spelling (to_be_bytes w64) xs) (sym taken)
+    ∙ append_assoc old (many_encoding (to_be_bytes w64) (take i v)) (to_be_bytes w64 n)
+    ∙ ap (λ (xs : List ℕ). old ++ xs) (sym (many_encoding-push (to_be_bytes w64) (take i v) n))
+    ∙ ap (λ (xs : List ℕ). old ++ many_encoding (to_be_bytes w64) xs) (sym taken)
 
 -- five fields, one behind the other
 pub five : (old one two three four new b c d : List ℕ) (a f : ℕ) → one ≡ old ++ a ∷ [] → two ≡ one ++ f ∷ [] → three ≡ two ++ b → four ≡ three ++ c → new ≡ four ++ d → new ≡ old ++ (a ∷ f ∷ (b ++ (c ++ d)))

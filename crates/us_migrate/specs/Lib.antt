@@ -1,2 +1,2 @@
-pub mod Spellings
-pub mod Readings
+pub mod Encodings
+pub mod Decoders

@@ -2,8 +2,8 @@ ghost use Rattle.std.specs.Prelude.{◌≡◌, ◌≤◌, ℕ, IfSome, None, Som
 ghost use Rattle.us_base.specs.Shape.{IsShape};
 ghost use Rattle.us_wire.specs.Fields.{StandsAt};
 ghost use Rattle.us_migrate.specs.declared.token.Token.{Token};
-ghost use Rattle.us_migrate.specs.Readings.{tid_at, vector_at, token_at};
-ghost use Rattle.us_migrate.specs.Spellings.{token_spelling, TokenFits};
+ghost use Rattle.us_migrate.specs.Decoders.{tid_at, vector_at, token_at};
+ghost use Rattle.us_migrate.specs.Encodings.{token_encoding, TokenFits};
 
 use crate::Token;
 use us_base::{Shape, Vector};
@@ -11,7 +11,7 @@ use us_kind::Tid;
 use us_wire::{take_number, take_u8_between};
 
 /// A transaction of a store of this shape, and the place behind it.
-#[tactic(auto, unfolding(crate::specs::Readings::tid_at))]
+#[tactic(auto, unfolding(crate::specs::Decoders::tid_at))]
 pub fn take_tid(input: &[u8], at: usize, shape: Shape) -> Option<(Tid, usize)>
     requires { IsShape shape }
     ensures { result ≡ tid_at shape input.now at }
@@ -38,7 +38,7 @@ pub fn take_vector(input: &[u8], at: usize, shape: Shape) -> Option<(Vector, usi
 }
 
 /// The token that stands at the place.
-#[tactic(auto, unfolding(crate::specs::Readings::token_at))]
+#[tactic(auto, unfolding(crate::specs::Decoders::token_at))]
 fn token_in(input: &[u8], at: usize, shape: Shape) -> Option<(Token, usize)>
     requires { IsShape shape }
     ensures { result ≡ token_at shape input.now at }
@@ -58,13 +58,13 @@ fn token_in(input: &[u8], at: usize, shape: Shape) -> Option<(Token, usize)>
     Some((token, next))
 }
 
-/// The token whose spelling stands at the place, and the place behind it; none where no token's spelling stands there.
+/// The token whose encoding stands at the place, and the place behind it; none where no token's encoding stands there.
 pub fn read_token(input: &[u8], at: usize, shape: Shape) -> Option<(Token, usize)>
     requires { IsShape shape }
     ensures read { result ≡ token_at shape input.now at }
-    ensures found { IfSome result (λ read. StandsAt (token_spelling shape read.0) input.now at read.1 × TokenFits shape read.0) }
-    ensures again { (token : Token) (next : ℕ) → TokenFits shape token → StandsAt (token_spelling shape token) input.now at next → result ≡ Some (token, next) }
-    ensures none { result ≡ None → (token : Token) (next : ℕ) → TokenFits shape token → ¬ StandsAt (token_spelling shape token) input.now at next }
+    ensures found { IfSome result (λ read. StandsAt (token_encoding shape read.0) input.now at read.1 × TokenFits shape read.0) }
+    ensures again { (token : Token) (next : ℕ) → TokenFits shape token → StandsAt (token_encoding shape token) input.now at next → result ≡ Some (token, next) }
+    ensures none { result ≡ None → (token : Token) (next : ℕ) → TokenFits shape token → ¬ StandsAt (token_encoding shape token) input.now at next }
 {
     token_in(input, at, shape)
 }

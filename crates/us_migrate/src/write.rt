@@ -1,7 +1,7 @@
 ghost use Rattle.std.specs.Prelude.{◌≡◌, ◌≤◌, ◌++◌, OnOk, OnErr, length, take};
 ghost use Rattle.us_base.specs.Shape.{IsShape};
-ghost use Rattle.us_migrate.specs.Spellings.{tid_spelling, vector_spelling, token_spelling};
-ghost use Rattle.us_migrate.specs.Spellings.{TidFits, VectorFits, TokenFits};
+ghost use Rattle.us_migrate.specs.Encodings.{tid_encoding, vector_encoding, token_encoding};
+ghost use Rattle.us_migrate.specs.Encodings.{TidFits, VectorFits, TokenFits};
 
 use crate::Token;
 use us_base::{Shape, Vector};
@@ -21,7 +21,7 @@ fn undone(out: &mut Vec<u8>, before: usize, written: Result<(), Memory>) -> Resu
 }
 
 fn put_tid_fields(out: &mut Vec<u8>, tid: Tid) -> Result<(), Memory>
-    ensures ok { OnOk result (out.new.items ≡ out.old.items ++ tid_spelling tid) }
+    ensures ok { OnOk result (out.new.items ≡ out.old.items ++ tid_encoding tid) }
     ensures err { OnErr result (take (length out.old.items) out.new.items ≡ out.old.items) }
 {
     put_u8(out, tid.site)?;
@@ -33,7 +33,7 @@ fn put_tid_fields(out: &mut Vec<u8>, tid: Tid) -> Result<(), Memory>
 pub fn put_tid(out: &mut Vec<u8>, shape: Shape, tid: Tid) -> Result<(), Memory>
     requires shape { IsShape shape }
     requires fits { TidFits shape tid }
-    ensures ok { OnOk result (out.new.items ≡ out.old.items ++ tid_spelling tid) }
+    ensures ok { OnOk result (out.new.items ≡ out.old.items ++ tid_encoding tid) }
     ensures err { OnErr result (out.new.items ≡ out.old.items) }
 {
     let before = out.len();
@@ -44,7 +44,7 @@ pub fn put_tid(out: &mut Vec<u8>, shape: Shape, tid: Tid) -> Result<(), Memory>
 fn put_entries(out: &mut Vec<u8>, shape: Shape, vector: &Vector) -> Result<(), Memory>
     requires shape { IsShape shape }
     requires ten { length vector.now ≡ 10 }
-    ensures ok { OnOk result (out.new.items ≡ out.old.items ++ vector_spelling shape vector.now) }
+    ensures ok { OnOk result (out.new.items ≡ out.old.items ++ vector_encoding shape vector.now) }
     ensures err { OnErr result (take (length out.old.items) out.new.items ≡ out.old.items) }
 {
     for i in 0..shape.sites() + 1 {
@@ -57,7 +57,7 @@ fn put_entries(out: &mut Vec<u8>, shape: Shape, vector: &Vector) -> Result<(), M
 pub fn put_vector(out: &mut Vec<u8>, shape: Shape, vector: &Vector) -> Result<(), Memory>
     requires shape { IsShape shape }
     requires fits { VectorFits shape vector.now }
-    ensures ok { OnOk result (out.new.items ≡ out.old.items ++ vector_spelling shape vector.now) }
+    ensures ok { OnOk result (out.new.items ≡ out.old.items ++ vector_encoding shape vector.now) }
     ensures err { OnErr result (out.new.items ≡ out.old.items) }
 {
     let before = out.len();
@@ -68,7 +68,7 @@ pub fn put_vector(out: &mut Vec<u8>, shape: Shape, vector: &Vector) -> Result<()
 fn put_token_fields(out: &mut Vec<u8>, shape: Shape, token: &Token) -> Result<(), Memory>
     requires shape { IsShape shape }
     requires ten { length token.now.vector ≡ 10 }
-    ensures ok { OnOk result (out.new.items ≡ out.old.items ++ token_spelling shape token.now) }
+    ensures ok { OnOk result (out.new.items ≡ out.old.items ++ token_encoding shape token.now) }
     ensures err { OnErr result (take (length out.old.items) out.new.items ≡ out.old.items) }
 {
     put_u8(out, token.site)?;
@@ -82,7 +82,7 @@ fn put_token_fields(out: &mut Vec<u8>, shape: Shape, token: &Token) -> Result<()
 pub fn write_token(out: &mut Vec<u8>, shape: Shape, token: &Token) -> Result<(), Memory>
     requires shape { IsShape shape }
     requires fits { TokenFits shape token.now }
-    ensures ok { OnOk result (out.new.items ≡ out.old.items ++ token_spelling shape token.now) }
+    ensures ok { OnOk result (out.new.items ≡ out.old.items ++ token_encoding shape token.now) }
     ensures err { OnErr result (out.new.items ≡ out.old.items) }
 {
     let before = out.len();

@@ -8,7 +8,7 @@ use Rattle.us_exec.specs.declared.Done.{Done}
 use Rattle.us_exec.specs.declared.Execution.{Execution}
 use Rattle.us_value.specs.declared.operation.Kind.TheVariants.{Register}
 use Rattle.us_model.specs.declared.settings.Settings.{Settings}
-use Rattle.us_model.specs.Worlds.{Happening, Opens, Sends, Comes}
+use Rattle.us_model.specs.Worlds.{WorldEvent, OpenSession, ClientBytes, DeliverPacket}
 
 -- one site with one partition, and one space, of registers
 abbrev pub example_settings : Settings
@@ -27,11 +27,11 @@ read_frame = 0 ∷ 0 ∷ 0 ∷ 6 ∷ 1 ∷ 2 ∷ 1 ∷ 1 ∷ 97 ∷ 1 ∷ []
 abbrev pub write_frame : List ℕ
 write_frame = 0 ∷ 0 ∷ 0 ∷ 9 ∷ 1 ∷ 2 ∷ 1 ∷ 1 ∷ 97 ∷ 2 ∷ 0 ∷ 1 ∷ 120 ∷ []
 
-abbrev pub example : List Happening
+abbrev pub example : List WorldEvent
 example =
-    Opens 1 1 ∷ Sends 1 1 1 (begin_frame ++ write_frame) ∷ Comes 1 ∷ Comes 2
-    ∷ Sends 1 1 1 (read_frame ++ commit_frame) ∷ Comes 3 ∷ Comes 4 ∷ Comes 5 ∷ Comes 6 ∷ Comes 7
-    ∷ Sends 1 1 1 (begin_frame ++ read_frame ++ commit_frame) ∷ Comes 8 ∷ Comes 9 ∷ []
+    OpenSession 1 1 ∷ ClientBytes 1 1 1 (begin_frame ++ write_frame) ∷ DeliverPacket 1 ∷ DeliverPacket 2
+    ∷ ClientBytes 1 1 1 (read_frame ++ commit_frame) ∷ DeliverPacket 3 ∷ DeliverPacket 4 ∷ DeliverPacket 5 ∷ DeliverPacket 6 ∷ DeliverPacket 7
+    ∷ ClientBytes 1 1 1 (begin_frame ++ read_frame ++ commit_frame) ∷ DeliverPacket 8 ∷ DeliverPacket 9 ∷ []
 
 abbrev pub example_item : Item
 example_item = record { space = 1; id = 97 ∷ [] }

@@ -1,6 +1,8 @@
 pub mod State
+pub mod Refusals
 pub mod Partitions
 pub mod Sessions
+pub mod Coordinators
 pub mod Sites
 pub mod Worlds
 pub mod Executions

@@ -1,7 +1,7 @@
 -- The rules of a partition. Each takes the partition's own actor.
 use Rattle.std.specs.Prelude.{ℕ, ◌+◌, ◌-◌, ◌^◌, ◌%◌, List, [], ◌∷◌, ◌++◌, Bool, false, not, ◌&&◌, if◌then◌else◌, nat_le, nat_lt, Option, Some, None, max, min, filter, position, remove, slice_get}
 use Rattle.std.specs.List.{list_any}
-use Rattle.us_kind.specs.Words.{tid_eq}
+use Rattle.us_kind.specs.Comparison.{tid_eq}
 use Rattle.us_kind.specs.declared.identity.Tid.{Tid}
 use Rattle.us_base.specs.Vector.{entry, at_most, with_entry}
 use Rattle.us_value.specs.declared.item.Write.{Write}
@@ -33,7 +33,7 @@ own_known clock [] = clock
 own_known clock (q ∷ qs) = least_ts q.ts qs - 1
 
 abbrev pub known : Actor → Partition → List ℕ
-known me p = with_entry p.got me.site (own_known p.clock p.prepared)
+known me p = with_entry p.received me.site (own_known p.clock p.prepared)
 
 -- what snapshots begin with: with one partition at one site it is what the partition knows
 abbrev pub base : Actor → Partition → List ℕ

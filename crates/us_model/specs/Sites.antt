@@ -10,88 +10,52 @@ use Rattle.us_value.specs.declared.operation.Effect.{Effect}
 use Rattle.us_value.specs.Values.{op_fits, effect_fits}
 use Rattle.us_value.specs.Catalogs.{kind_in}
 use Rattle.us_model.specs.State.{Spaces}
-use Rattle.us_client_wire.specs.declared.frame.Reply.TheVariants as reply
-use Rattle.us_client_wire.specs.Replies.{reply_spelling}
 use Rattle.us_peer_wire.specs.declared.message.Actor.{Actor}
 use Rattle.us_peer_wire.specs.declared.message.Packet.{Packet}
 use Rattle.us_peer_wire.specs.declared.message.Message.{Message}
 use Rattle.us_peer_wire.specs.declared.message.Message.TheVariants as message
 use Rattle.us_model.specs.declared.event.Event.{Event}
 use Rattle.us_model.specs.declared.event.Event.TheVariants as event
-use Rattle.us_model.specs.declared.event.Note.TheVariants as note
 use Rattle.us_model.specs.declared.event.Outputs.{Outputs}
 use Rattle.us_model.specs.declared.coordinator.Session.{Session}
-use Rattle.us_model.specs.declared.coordinator.Waiting.TheVariants as waits
-use Rattle.us_model.specs.declared.coordinator.Desk.{Desk}
+use Rattle.us_model.specs.declared.coordinator.Context.{Context}
+use Rattle.us_model.specs.declared.coordinator.View.{View}
 use Rattle.us_model.specs.declared.settings.Settings.{Settings}
 use Rattle.us_model.specs.State.{Partition, Shard, Site}
 use Rattle.us_model.specs.Partitions.{known, base, get, may_prepare, prepared as prepared_here, timestamp_for, commit, versions, still_parked}
-use Rattle.us_model.specs.Sessions.{no_stream, Acted, AllActed, each_session, bytes, close, version, prepared, run_session}
+use Rattle.us_model.specs.Sessions.{SessionStep, bytes, close, version, prepared, run_session}
+use Rattle.us_model.specs.Coordinators.{Coordinated, each_acts, new_coordinator, opened, refused_open, open_in}
 
 abbrev pub no_outputs : Outputs
 no_outputs = record { packets = []; client = []; notes = [] }
 
 -- an actor, and what it has given out so far
-pub record Went : Type 0 where
+pub record ActorStep : Type 0 where
   pub shard : Shard
   pub out : Outputs
 
--- THE SESSIONS' PART OF A RULE
-abbrev pub desk_of : Actor → Shape → Went → Desk
-desk_of me shape w = record { me = me; shape = shape; base = base me w.shard.partition; seq = w.shard.coordinator.seq; out = w.out }
+-- THE COORDINATOR'S PART
+abbrev pub view_of : Actor → Shape → ActorStep → View
+view_of me shape w = record { me = me; shape = shape; base = base me w.shard.partition }
 
-abbrev pub with_sessions : Went → AllActed → Went
-with_sessions w all =
-    record {
-      shard = record { partition = w.shard.partition; coordinator = record { seq = all.desk.seq; sessions = all.sessions } };
-      out = all.desk.out;
-    }
+abbrev pub with_coordinator : ActorStep → Coordinated → ActorStep
+with_coordinator w a = record { shard = record w.shard { coordinator = a.coordinator }; out = a.out }
 
-abbrev pub all_sessions : (Desk → Session → Acted) → Actor → Shape → Went → Went
-all_sessions f me shape w = with_sessions w (each_session f (desk_of me shape w) w.shard.coordinator.sessions)
+abbrev pub all_sessions : (Context → Session → SessionStep) → Actor → Shape → ActorStep → ActorStep
+all_sessions f me shape w = with_coordinator w (each_acts f (view_of me shape w) w.shard.coordinator w.out)
 
 -- THE PARTITION'S PART
-abbrev pub with_partition : Went → Partition → List Packet → Went
+abbrev pub with_partition : ActorStep → Partition → List Packet → ActorStep
 with_partition w p ps = record { shard = record w.shard { partition = p }; out = record w.out { packets = w.out.packets ++ ps } }
 
--- OPEN: a session with the coordinator's next number
-abbrev pub new_session : ℕ → Session
-new_session number =
-    record {
-      number = number;
-      past = zero;
-      asked = 0;
-      stream = no_stream;
-      begun = false;
-      count = 0;
-      running = None;
-      waits = waits.Nothing;
-      asks = [];
-      closed = false;
-    }
+-- OPEN
+abbrev pub opens_one : ℕ → ActorStep → ActorStep
+opens_one coord w = with_coordinator w (opened coord w.shard.coordinator w.out)
 
-abbrev pub opened : ℕ → Went → Went
-opened coord w =
-    let number = length w.shard.coordinator.sessions + 1 in
-    record {
-      shard = record w.shard { coordinator = record w.shard.coordinator { sessions = w.shard.coordinator.sessions ++ new_session number ∷ [] } };
-      out = record w.out { notes = w.out.notes ++ note.Opened coord number ∷ [] };
-    }
-
--- an open at a site that has its greatest number of open sessions is refused, by a reply under no session's number
-abbrev pub refused_open : ℕ → Shape → Went → Went
-refused_open coord shape w =
-    record w {
-      out = record w.out {
-        client = w.out.client ++ record { coord = coord; session = 0; bytes = reply_spelling shape (reply.Refused 0 11); ends = true } ∷ [];
-      };
-    }
+abbrev pub opens_none : ℕ → Shape → ActorStep → ActorStep
+opens_none coord shape w = record w { out = refused_open coord shape w.out }
 
 -- how many sessions are open
-abbrev pub open_in : List Session → ℕ
-open_in [] = 0
-open_in (s ∷ ss) = if s.closed then open_in ss else open_in ss + 1
-
 abbrev pub open_at : List Shard → ℕ
 open_at [] = 0
 open_at (shard ∷ shards) = open_in shard.coordinator.sessions + open_at shards
@@ -101,7 +65,7 @@ open_at (shard ∷ shards) = open_in shard.coordinator.sessions + open_at shards
 abbrev pub answer_to : Actor → Actor → Message → Packet
 answer_to me from m = record { from = me; to = from; message = m }
 
-abbrev pub take_message : Actor → Shape → Actor → Went → Message → Went
+abbrev pub take_message : Actor → Shape → Actor → ActorStep → Message → ActorStep
 take_message me shape from w (message.Get tid place at snapshot item op own) =
     with_partition w
     (get me w.shard.partition (record { from = from.actor; tid = tid; place = place; at = at; snapshot = snapshot; item = item; op = op; own = own })) []
@@ -158,20 +122,20 @@ actor_of (event.Bytes coord session piece) = coord
 actor_of (event.Close coord session) = coord
 actor_of (event.Take packet) = packet.to.actor
 
-unfoldable pub take_event : Actor → Settings → Bool → Went → Event → Went
-take_event me settings full w (event.Open coord) = if full then refused_open coord settings.shape w else opened coord w
+unfoldable pub take_event : Actor → Settings → Bool → ActorStep → Event → ActorStep
+take_event me settings full w (event.Open coord) = if full then opens_none coord settings.shape w else opens_one coord w
 take_event me settings full w (event.Bytes coord session piece) = all_sessions (bytes settings.catalog session piece) me settings.shape w
 take_event me settings full w (event.Close coord session) = all_sessions (close session) me settings.shape w
 take_event me settings full w (event.Take packet) =
     if is_for me settings packet then take_message me settings.shape packet.from w packet.message else w
 
 -- WAKE: waiting questions are answered, and then each session runs
-abbrev pub answers : Actor → Spaces → Went → Went
+abbrev pub answers : Actor → Spaces → ActorStep → ActorStep
 answers me spaces w =
     let p = w.shard.partition in
     with_partition w (record p { parked = still_parked (known me p) p.parked }) (versions me spaces (known me p) p.log p.parked)
 
-unfoldable pub wake : Actor → Settings → Went → Went
+unfoldable pub wake : Actor → Settings → ActorStep → ActorStep
 wake me settings w = all_sessions (run_session settings.catalog) me settings.shape (answers me settings.catalog w)
 
 -- THE STEP OF A SITE
@@ -187,7 +151,7 @@ is_full site = nat_le 4096 (open_at site.shards)
 abbrev pub shard_at : List Shard → ℕ → Option Shard
 shard_at shards actor = if nat_lt 0 actor then slice_get shards (actor - 1) else None
 
-abbrev pub with_shard : Site → ℕ → Went → Stepped
+abbrev pub with_shard : Site → ℕ → ActorStep → Stepped
 with_shard site actor w = record { site = record site { shards = slice_set site.shards (actor - 1) w.shard }; out = w.out }
 
 abbrev pub step_of : Site → Event → Actor → Option Shard → Stepped
@@ -201,8 +165,8 @@ site_step site e = step_of site e (record { site = site.number; actor = actor_of
 abbrev pub new_shard : Shard
 new_shard =
     record {
-      partition = record { clock = 0; log = []; prepared = []; done = []; got = zero; parked = [] };
-      coordinator = record { seq = 0; sessions = [] };
+      partition = record { clock = 0; log = []; prepared = []; done = []; received = zero; parked = [] };
+      coordinator = new_coordinator;
     }
 
 -- a shard for each partition

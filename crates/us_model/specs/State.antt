@@ -15,12 +15,14 @@ pub record Partition : Type 0 where
   pub log : List LogTx
   pub prepared : List PreparedTx
   pub done : List Tid
-  pub got : List ℕ
+  pub received : List ℕ
   pub parked : List Get
 
--- a coordinator: how many transactions it has begun, and its sessions by number
+-- a coordinator: how many transactions were begun and how many sessions were opened at it, and those of the sessions that are
+-- open or still committing, in order of opening
 pub record Coordinator : Type 0 where
   pub seq : ℕ
+  pub opens : ℕ
   pub sessions : List Session
 
 -- a partition and the coordinator of the same number: one actor

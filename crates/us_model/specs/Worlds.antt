@@ -7,12 +7,9 @@ use Rattle.us_model.specs.declared.event.Event.{Event}
 use Rattle.us_model.specs.declared.event.Event.TheVariants as event
 use Rattle.us_model.specs.declared.event.Note.{Note}
 use Rattle.us_exec.specs.declared.WaitingRequest.{WaitingRequest}
-use Rattle.us_model.specs.declared.coordinator.Ask.{Ask}
-use Rattle.us_model.specs.declared.coordinator.Session.{Session}
-use Rattle.us_model.specs.declared.coordinator.Waiting.{Waiting}
-use Rattle.us_model.specs.declared.coordinator.Waiting.TheVariants as waits
 use Rattle.us_model.specs.declared.settings.Settings.{Settings}
 use Rattle.us_model.specs.State.{Shard, Site}
+use Rattle.us_model.specs.Coordinators.{waits_in}
 use Rattle.us_model.specs.Sites.{Stepped, site_step, new_site}
 
 -- the sites from 1, the packets in the order of sending, the numbers of those that were delivered (a packet may come
@@ -24,11 +21,11 @@ pub record World : Type 0 where
   pub notes : List Note
 
 -- what may happen next: a client opens a session, sends bytes or closes its session, or the k-th packet ever sent comes
-pub data Happening : Type 0 where
-  Opens : (site coord : ℕ) → Happening
-  Sends : (site coord session : ℕ) → (piece : List ℕ) → Happening
-  Closes : (site coord session : ℕ) → Happening
-  Comes : (k : ℕ) → Happening
+pub data WorldEvent : Type 0 where
+  OpenSession : (site coord : ℕ) → WorldEvent
+  ClientBytes : (site coord session : ℕ) → (piece : List ℕ) → WorldEvent
+  CloseSession : (site coord session : ℕ) → WorldEvent
+  DeliverPacket : (k : ℕ) → WorldEvent
 
 -- of things that are counted from 1, the n-th
 abbrev pub nth : {X : Type 0} → List X → ℕ → Option X
@@ -49,20 +46,20 @@ at_site w s e = at_one w s e (nth w.sites s)
 abbrev pub delivered : World → ℕ → World
 delivered w k = record w { delivered = w.delivered ++ k ∷ [] }
 
-abbrev pub comes : World → ℕ → Option Packet → World
-comes w k None = w
-comes w k (Some packet) = at_site (delivered w k) packet.to.site (event.Take packet)
+abbrev pub deliver_packet : World → ℕ → Option Packet → World
+deliver_packet w k None = w
+deliver_packet w k (Some packet) = at_site (delivered w k) packet.to.site (event.Take packet)
 
-unfoldable pub happens : World → Happening → World
-happens w (Opens site coord) = at_site w site (event.Open coord)
-happens w (Sends site coord session piece) = at_site w site (event.Bytes coord session piece)
-happens w (Closes site coord session) = at_site w site (event.Close coord session)
-happens w (Comes k) = comes w k (nth w.packets k)
+unfoldable pub world_step : World → WorldEvent → World
+world_step w (OpenSession site coord) = at_site w site (event.Open coord)
+world_step w (ClientBytes site coord session piece) = at_site w site (event.Bytes coord session piece)
+world_step w (CloseSession site coord session) = at_site w site (event.Close coord session)
+world_step w (DeliverPacket k) = deliver_packet w k (nth w.packets k)
 
 -- A RUN: one thing after another
-abbrev pub run : List Happening → World → World
+abbrev pub run : List WorldEvent → World → World
 run [] w = w
-run (h ∷ hs) w = run hs (happens w h)
+run (h ∷ hs) w = run hs (world_step w h)
 
 -- THE OPENING WORLD of a store with these settings: 2f + 1 sites, each with its partitions, where nothing has happened
 abbrev pub new_sites : Settings → List Site
@@ -86,29 +83,11 @@ abbrev pub least_undelivered : World → ℕ → ℕ → Option ℕ
 least_undelivered w from to = least_due from to w.delivered 1 w.packets
 
 -- a flush from one site to another: again and again the least undelivered packet, until none is left
-abbrev pub Flushes : ℕ → ℕ → World → List Happening → Type 0
+abbrev pub Flushes : ℕ → ℕ → World → List WorldEvent → Type 0
 Flushes from to w [] = least_undelivered w from to ≡ None
-Flushes from to w (h ∷ hs) = ((k : ℕ) × (least_undelivered w from to ≡ Some k) × (h ≡ Comes k)) × Flushes from to (happens w h) hs
+Flushes from to w (h ∷ hs) = ((k : ℕ) × (least_undelivered w from to ≡ Some k) × (h ≡ DeliverPacket k)) × Flushes from to (world_step w h) hs
 
--- THE REQUESTS THAT WAIT: of each open session with unanswered requests the first one, by its number
-abbrev pub first_ask : List Ask → Option ℕ
-first_ask [] = None
-first_ask (a ∷ rest) = Some a.at
-
-abbrev pub first_unanswered : List Ask → Waiting → Option ℕ
-first_unanswered asks waits.Nothing = first_ask asks
-first_unanswered asks (waits.Version at place item op) = Some at
-first_unanswered asks (waits.Prepared at missing told) = Some at
-
-abbrev pub waits_one : ℕ → ℕ → Session → Option ℕ → List WaitingRequest → List WaitingRequest
-waits_one site coord s None rest = rest
-waits_one site coord s (Some at) rest =
-    if s.closed then rest else record { session = record { site = site; coord = coord; number = s.number }; at = at } ∷ rest
-
-abbrev pub waits_in : ℕ → ℕ → List Session → List WaitingRequest
-waits_in site coord [] = []
-waits_in site coord (s ∷ ss) = waits_one site coord s (first_unanswered s.asks s.waits) (waits_in site coord ss)
-
+-- THE REQUESTS THAT WAIT, of all sites
 abbrev pub waits_at : ℕ → ℕ → List Shard → List WaitingRequest
 waits_at site coord [] = []
 waits_at site coord (shard ∷ shards) = waits_in site coord shard.coordinator.sessions ++ waits_at site (coord + 1) shards

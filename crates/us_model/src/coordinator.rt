@@ -18,21 +18,21 @@ pub struct Transaction {
 
 /// A request that waits for its turn, and the number of its frame in the session.
 #[derive(Drop)]
-pub struct Ask {
+pub struct QueuedRequest {
     pub at: u64,
     pub request: Request,
 }
 
 /// The timestamp under which a partition has prepared a transaction.
 #[derive(Clone, Copy, Debug, PartialEq, Eq)]
-pub struct PreparedAt {
+pub struct Vote {
     pub part: u8,
     pub ts: u64,
 }
 
 /// What the request that a session is at waits for.
 #[derive(Drop)]
-pub enum Waiting {
+pub enum Await {
     Nothing,
     /// The version for the operation at this place.
     Version {
@@ -41,15 +41,15 @@ pub enum Waiting {
         item: Item,
         op: Op,
     },
-    /// The partitions that haven't prepared the transaction, beside what the others told.
+    /// The partitions that haven't prepared the transaction, beside the votes of the others.
     Prepared {
         at: u64,
-        missing: Items<u8>,
-        told: Items<PreparedAt>,
+        pending: Items<u8>,
+        votes: Items<Vote>,
     },
 }
 
-/// A session. Its unanswered requests are the one that it waits with, if it waits, and then those of `asks`.
+/// A session. Its unanswered requests are the one that it waits with, if it waits, and then those of `requests`.
 #[derive(Drop)]
 pub struct Session {
     pub number: u64,
@@ -63,18 +63,29 @@ pub struct Session {
     /// How many transactions were committed in it.
     pub count: u64,
     pub running: Option<Transaction>,
-    pub waits: Waiting,
-    pub asks: Items<Ask>,
+    pub waits: Await,
+    pub requests: Items<QueuedRequest>,
     /// A closed session takes and says no more; a transaction that was being committed goes on.
     pub closed: bool,
 }
 
-/// What the sessions of a coordinator share while one event is taken.
-#[derive(Drop)]
-pub struct Desk {
+/// What a coordinator sees of its actor while one event is taken.
+#[derive(Clone, Copy)]
+pub struct View {
     /// The coordinator's own actor.
     pub me: Actor,
-    /// The shape of the store, by which replies are spelled.
+    /// The shape of the store, by which replies are encoded.
+    pub shape: Shape,
+    /// The vector that snapshots begin with.
+    pub base: Vector,
+}
+
+/// What the sessions of a coordinator share while one event is taken.
+#[derive(Drop)]
+pub struct Context {
+    /// The coordinator's own actor.
+    pub me: Actor,
+    /// The shape of the store, by which replies are encoded.
     pub shape: Shape,
     /// The vector that snapshots begin with.
     pub base: Vector,

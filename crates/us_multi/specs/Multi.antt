@@ -3,7 +3,7 @@ use Rattle.std.specs.Prelude.{ℕ, List, Bool, true, false, Option, Some, None, 
 use Rattle.std.specs.FinMap.{empty, entries}
 use Rattle.std.specs.List.{list_any}
 use Rattle.us_kind.specs.Updates.{Update}
-use Rattle.us_kind.specs.Words.{ascending, tag_of}
+use Rattle.us_kind.specs.Comparison.{ascending, tag_of}
 use Rattle.us_kind.specs.declared.identity.Stamp.{Stamp}
 use Rattle.us_kind.specs.declared.identity.Tag.{Tag}
 use Rattle.us_multi.specs.Writes.{Writes, with_write, overwritten, live_tags}

@@ -13,8 +13,9 @@ use Rattle.us_kind.specs.Keys.{keys_where-passes, passes-keys_where, any-keys_wh
 use Rattle.us_kind.specs.Orders.{bytes_not, bytes_same, bytes_trans}
 use Rattle.us_kind.specs.Tags.{tag_cmp, tag_cmp-total, tag_cmp-IsAntisymmetric}
 use Rattle.us_kind.specs.Histories.{any_in, in_any}
-use Rattle.us_kind.specs.Updates.{Update, Stamped, All, AllLater, StandsBefore, Commutes, CountsUpdates, AnswersInOrder, WasPrepared, before, state_after, update_of, updates_of, with_sums}
-use Rattle.us_kind.specs.Words.{In, bytes_eq, bytes_less, tag_of}
+use Rattle.us_kind.specs.Updates.{Update, Stamped, All, AllLater, StandsBefore, Commutes, CountsUpdates, AnswersInOrder, WasPrepared, before, state_after}
+use Rattle.us_kind.specs.Updates.{update_of, updates_of, with_sums}
+use Rattle.us_kind.specs.Comparison.{In, bytes_eq, bytes_less, tag_of}
 use Rattle.us_kind.specs.declared.identity.Stamp.{Stamp}
 use Rattle.us_kind.specs.declared.identity.Tag.{Tag}
 use Rattle.us_multi.specs.Multi.{multi_initial, multi_updated, multi_answered, multi_prepared, multi_reads, writes, value_of, is_overwritten, multi_value}
@@ -49,7 +50,8 @@ at_tag q o (Written v ts) t = cond (tie q t) (Some (written v (cond (is_in q ts)
 pub get-overwritten : (m : Writes) (ts : List Tag) (q : Tag) → get (overwritten m ts) q ≡ cond (is_in q ts) (Some None) (get m q)
 unfolding is_in tie
 get-overwritten m [] q = refl
-get-overwritten m (t ∷ ts) q = get-overwritten (insert m t None) ts q ∙ ap (cond (is_in q ts) (Some None)) (get-insert tag_cmp-total m t None q) ∙ on (tie q t) (is_in q ts)
+get-overwritten m (t ∷ ts) q = get-overwritten (insert m t None) ts q ∙ ap (cond (is_in q ts) (Some None)) (get-insert tag_cmp-total m t None q)
+    ∙ on (tie q t) (is_in q ts)
   where
     on : (a b : Bool) → cond b (Some None) (cond a (Some None) (get m q)) ≡ cond (a || b) (Some None) (get m q)
     on true true = refl
@@ -64,7 +66,8 @@ get-updated m (Written v ts) st q =
   where
     on : (b : Bool) → tie q (tag_of st) ≡ b → cond b (Some (written v (get (overwritten m ts) (tag_of st)))) (get (overwritten m ts) q)
         ≡ cond b (Some (written v (cond (is_in q ts) (Some None) (get m q)))) (cond (is_in q ts) (Some None) (get m q))
-    on true e = ap (λ k. Some (written v (get (overwritten m ts) k))) (sym (tie_same q (tag_of st) e)) ∙ ap (λ o. Some (written v o)) (get-overwritten m ts q)
+    on true e = ap (λ k. Some (written v (get (overwritten m ts) k))) (sym (tie_same q (tag_of st) e))
+        ∙ ap (λ o. Some (written v o)) (get-overwritten m ts q)
     on false e = get-overwritten m ts q
 
 greater_two : (v w : List ℕ) → greater v w ≡ greater w v
@@ -155,7 +158,8 @@ unfolding entry_after
 get-after m [] q = refl
 get-after m (u ∷ us) q = get-after (multi_updated m u.effect u.stamp) us q ∙ ap (λ o. entry_after q o us) (get-updated m u.effect u.stamp q)
 
-entry_after-with_sums : (sum : Stamped MultiOp MultiEffect → ℕ) (q : Tag) (o : Option (Option (List ℕ))) (us : List (Stamped MultiOp MultiEffect)) → entry_after q o (with_sums sum us) ≡ entry_after q o us
+entry_after-with_sums : (sum : Stamped MultiOp MultiEffect → ℕ) (q : Tag) (o : Option (Option (List ℕ))) (us : List (Stamped MultiOp MultiEffect))
+    → entry_after q o (with_sums sum us) ≡ entry_after q o us
 unfolding entry_after
 entry_after-with_sums sum q o [] = refl
 entry_after-with_sums sum q o (u ∷ us) = entry_after-with_sums sum q (at_tag q o u.effect (tag_of u.stamp)) us
@@ -185,30 +189,35 @@ at_tag-named q o (Written v ts) t h = on (tie q t) (is_in q ts) h
 
 at_tag-other : (q : Tag) (o : Option (Option (List ℕ))) (e : MultiEffect) (t : Tag) → names q e ≡ false → tie q t ≡ false → at_tag q o e t ≡ o
 unfolding at_tag names tags_of
-at_tag-other q o (Written v ts) t h k = ap (λ b. cond b (Some (written v (cond (is_in q ts) (Some None) o))) (cond (is_in q ts) (Some None) o)) k ∙ ap (λ b. cond b (Some None) o) h
+at_tag-other q o (Written v ts) t h k = ap (λ b. cond b (Some (written v (cond (is_in q ts) (Some None) o))) (cond (is_in q ts) (Some None) o)) k
+    ∙ ap (λ b. cond b (Some None) o) h
 
 at_tag-own : (q : Tag) (e : MultiEffect) (t : Tag) → names q e ≡ false → tie q t ≡ true → at_tag q None e t ≡ Some (Some (worth e))
 unfolding at_tag names tags_of worth
 at_tag-own q (Written v ts) t h k =
-    ap (λ b. cond b (Some (written v (cond (is_in q ts) (Some None) None))) (cond (is_in q ts) (Some None) None)) k ∙ ap (λ b. Some (written v (cond b (Some None) None))) h
+    ap (λ b. cond b (Some (written v (cond (is_in q ts) (Some None) None))) (cond (is_in q ts) (Some None) None)) k
+    ∙ ap (λ b. Some (written v (cond b (Some None) None))) h
 
 gone_stays : (q : Tag) (us : List (Stamped MultiOp MultiEffect)) → entry_after q (Some None) us ≡ Some None
 unfolding entry_after
 gone_stays q [] = refl
 gone_stays q (u ∷ us) = ap (λ o. entry_after q o us) (at_tag-gone q u.effect (tag_of u.stamp)) ∙ gone_stays q us
 
-named_gone : (q : Tag) (o : Option (Option (List ℕ))) (us : List (Stamped MultiOp MultiEffect)) (u : Stamped MultiOp MultiEffect) → In u us → names q u.effect ≡ true → entry_after q o us ≡ Some None
+named_gone : (q : Tag) (o : Option (Option (List ℕ))) (us : List (Stamped MultiOp MultiEffect)) (u : Stamped MultiOp MultiEffect) → In u us
+    → names q u.effect ≡ true → entry_after q o us ≡ Some None
 unfolding entry_after
 named_gone q o [] u i h = absurd i
 named_gone q o (v ∷ us) u (inl e) h =
-    ap (λ o. entry_after q o us) (at_tag-named q o v.effect (tag_of v.stamp) (ap (λ (w : Stamped MultiOp MultiEffect). names q w.effect) e ∙ h)) ∙ gone_stays q us
+    ap (λ o. entry_after q o us) (at_tag-named q o v.effect (tag_of v.stamp) (ap (λ (w : Stamped MultiOp MultiEffect). names q w.effect) e ∙ h))
+    ∙ gone_stays q us
 named_gone q o (v ∷ us) u (inr i) h = named_gone q (at_tag q o v.effect (tag_of v.stamp)) us u i h
 
 -- no effect names the tag
 abbrev Unnamed : Tag → List (Stamped MultiOp MultiEffect) → Type 0
 Unnamed q us = (u : Stamped MultiOp MultiEffect) → In u us → names q u.effect ≡ false
 
-other_stays : (u : Stamped MultiOp MultiEffect) (o : Option (Option (List ℕ))) (us : List (Stamped MultiOp MultiEffect)) → Unnamed (tag_of u.stamp) us → All (StandsBefore u) us → entry_after (tag_of u.stamp) o us ≡ o
+other_stays : (u : Stamped MultiOp MultiEffect) (o : Option (Option (List ℕ))) (us : List (Stamped MultiOp MultiEffect)) → Unnamed (tag_of u.stamp) us
+    → All (StandsBefore u) us → entry_after (tag_of u.stamp) o us ≡ o
 unfolding entry_after
 other_stays u o [] unnamed apart = refl
 other_stays u o (v ∷ us) unnamed apart =
@@ -224,7 +233,8 @@ any_named : (q : Tag) (us : List (Stamped MultiOp MultiEffect)) → ((v : Stampe
 any_named q [] = inr (λ u i. absurd i)
 any_named q (u ∷ us) = on (names q u.effect) refl (any_named q us)
   where
-    on : (b : Bool) → names q u.effect ≡ b → ((v : Stamped MultiOp MultiEffect) × In v us × (names q v.effect ≡ true)) ⊎ Unnamed q us → ((v : Stamped MultiOp MultiEffect) × In v (u ∷ us) × (names q v.effect ≡ true)) ⊎ Unnamed q (u ∷ us)
+    on : (b : Bool) → names q u.effect ≡ b → ((v : Stamped MultiOp MultiEffect) × In v us × (names q v.effect ≡ true)) ⊎ Unnamed q us
+        → ((v : Stamped MultiOp MultiEffect) × In v (u ∷ us) × (names q v.effect ≡ true)) ⊎ Unnamed q (u ∷ us)
     on true e rest = inl (u, inl refl, e)
     on false e (inl v) = inl (v.0, inr v.1, v.2)
     on false e (inr none) = inr none_here
@@ -234,7 +244,8 @@ any_named q (u ∷ us) = on (names q u.effect) refl (any_named q us)
         none_here w (inr i) = none w i
 
 -- a write that no effect names is kept
-kept : (q : Tag) (us : List (Stamped MultiOp MultiEffect)) (u : Stamped MultiOp MultiEffect) → AllLater StandsBefore us → Unnamed q us → In u us → tag_of u.stamp ≡ q → entry_after q None us ≡ Some (Some (worth u.effect))
+kept : (q : Tag) (us : List (Stamped MultiOp MultiEffect)) (u : Stamped MultiOp MultiEffect) → AllLater StandsBefore us → Unnamed q us → In u us
+    → tag_of u.stamp ≡ q → entry_after q None us ≡ Some (Some (worth u.effect))
 unfolding entry_after
 kept q [] u order unnamed i t = absurd i
 kept q (v ∷ us) u order unnamed (inl e) t =
@@ -261,7 +272,8 @@ record WroteIn (q : Tag) (z : List ℕ) (us : List (Stamped MultiOp MultiEffect)
 never : (z : List ℕ) → Some None ≡ Some (Some z) → ⊥
 never z e = let inner : None ≡ Some z = ap (λ o. unwrap_or o None) e in absurd (cc)
 
-wrote : (q : Tag) (z : List ℕ) (us : List (Stamped MultiOp MultiEffect)) → AllLater StandsBefore us → entry_after q None us ≡ Some (Some z) → WroteIn q z us
+wrote : (q : Tag) (z : List ℕ) (us : List (Stamped MultiOp MultiEffect)) → AllLater StandsBefore us → entry_after q None us ≡ Some (Some z)
+    → WroteIn q z us
 unfolding entry_after
 wrote q z [] order h = absurd (cc)
 wrote q z (u ∷ us) order h = on (names q u.effect) (tie q (tag_of u.stamp)) refl refl (wrote q z us order.1)
@@ -274,10 +286,12 @@ wrote q z (u ∷ us) order h = on (names q u.effect) (tie q (tag_of u.stamp)) re
     on false false ea eb again = later (again (sym (ap (λ o. entry_after q o us) (at_tag-other q None u.effect (tag_of u.stamp) ea eb)) ∙ h))
     on false true ea eb again =
         let own = tie_same q (tag_of u.stamp) eb in
-        let now : entry_after q (Some (Some (worth u.effect))) us ≡ Some (Some z) = sym (ap (λ o. entry_after q o us) (at_tag-own q u.effect (tag_of u.stamp) ea eb)) ∙ h in
+        let now : entry_after q (Some (Some (worth u.effect))) us ≡ Some (Some z) = sym (ap (λ o. entry_after q o us) (at_tag-own q u.effect (tag_of u.stamp) ea eb))
+        ∙ h in
         record { update = u; here = inl refl; tag = sym own; value = value_kept (any_named q us) own now }
       where
-        value_kept : ((v : Stamped MultiOp MultiEffect) × In v us × (names q v.effect ≡ true)) ⊎ Unnamed q us → q ≡ tag_of u.stamp → entry_after q (Some (Some (worth u.effect))) us ≡ Some (Some z) → worth u.effect ≡ z
+        value_kept : ((v : Stamped MultiOp MultiEffect) × In v us × (names q v.effect ≡ true)) ⊎ Unnamed q us → q ≡ tag_of u.stamp
+            → entry_after q (Some (Some (worth u.effect))) us ≡ Some (Some z) → worth u.effect ≡ z
         value_kept (inl v) own now = absurd (never z (sym (named_gone q _ us v.0 v.1 v.2) ∙ now))
         value_kept (inr unnamed) own now =
             let stays = subst (λ k. entry_after k (Some (Some (worth u.effect))) us ≡ Some (Some (worth u.effect))) (sym own)
@@ -324,7 +338,8 @@ record WasMade (after : Tag → Tag → Bool) (us : List (Stamped MultiOp MultiE
   met : (q : Tag) → get state q ≡ entry_after q None (before after u us)
   tags : tags_of u.effect ≡ live_tags state
 
-was_made : (after : Tag → Tag → Bool) (us : List (Stamped MultiOp MultiEffect)) (u : Stamped MultiOp MultiEffect) (m : Writes) → ((q : Tag) → get m q ≡ entry_after q None (before after u us))
+was_made : (after : Tag → Tag → Bool) (us : List (Stamped MultiOp MultiEffect)) (u : Stamped MultiOp MultiEffect) (m : Writes)
+    → ((q : Tag) → get m q ≡ entry_after q None (before after u us))
     → (op : MultiOp) → u.op ≡ op → multi_prepared (tag_of u.stamp) op m ≡ Some u.effect → WasMade after us u
 unfolding worth tags_of
 was_made after us u m met MultiRead e made = absurd (cc)
@@ -332,14 +347,16 @@ was_made after us u m met (MultiWrite v) e made =
     let effect : u.effect ≡ Written v (live_tags m) = cc in
     record { op = e ∙ ap (λ f. MultiWrite (worth f)) (sym effect); state = m; met = met; tags = ap tags_of effect }
 
-order_filter : (p : Stamped MultiOp MultiEffect → Bool) (us : List (Stamped MultiOp MultiEffect)) → AllLater StandsBefore us → AllLater StandsBefore (filter p us)
+order_filter : (p : Stamped MultiOp MultiEffect → Bool) (us : List (Stamped MultiOp MultiEffect)) → AllLater StandsBefore us
+    → AllLater StandsBefore (filter p us)
 order_filter p [] order = tt
 order_filter p (u ∷ us) order = on (p u) (order_filter p us order.1)
   where
     all : (vs : List (Stamped MultiOp MultiEffect)) → All (StandsBefore u) vs → All (StandsBefore u) (filter p vs)
     all = elim [ [] ↦ λ h. tt | v ∷ (vs → more) ↦ λ h. keep (p v) v vs h.0 (more h.1) ]
       where
-        keep : (b : Bool) (v : Stamped MultiOp MultiEffect) (vs : List (Stamped MultiOp MultiEffect)) → StandsBefore u v → All (StandsBefore u) (filter p vs) → All (StandsBefore u) (cond b (v ∷ filter p vs) (filter p vs))
+        keep : (b : Bool) (v : Stamped MultiOp MultiEffect) (vs : List (Stamped MultiOp MultiEffect)) → StandsBefore u v
+            → All (StandsBefore u) (filter p vs) → All (StandsBefore u) (cond b (v ∷ filter p vs) (filter p vs))
         keep true v vs h rest = (h, rest)
         keep false v vs h rest = rest
 
@@ -349,19 +366,23 @@ order_filter p (u ∷ us) order = on (p u) (order_filter p us order.1)
 
 -- ---- membership in what a filter gives
 
-in_updates : {Y : Type 0} (f : Update MultiOp → Option Y) (z : Y) (us : List (Stamped MultiOp MultiEffect)) → In z (filter_map f (updates_of us)) → (u : Stamped MultiOp MultiEffect) × In u us × (f (update_of u) ≡ Some z)
+in_updates : {Y : Type 0} (f : Update MultiOp → Option Y) (z : Y) (us : List (Stamped MultiOp MultiEffect)) → In z (filter_map f (updates_of us))
+    → (u : Stamped MultiOp MultiEffect) × In u us × (f (update_of u) ≡ Some z)
 in_updates f z [] i = absurd i
 in_updates {Y} f z (u ∷ us) i = on (f (update_of u)) refl i (in_updates f z us)
   where
-    on : (o : Option Y) → f (update_of u) ≡ o → In z (cons_option o (filter_map f (updates_of us))) → (In z (filter_map f (updates_of us)) → (v : Stamped MultiOp MultiEffect) × In v us × (f (update_of v) ≡ Some z))
+    on : (o : Option Y) → f (update_of u) ≡ o → In z (cons_option o (filter_map f (updates_of us)))
+        → (In z (filter_map f (updates_of us)) → (v : Stamped MultiOp MultiEffect) × In v us × (f (update_of v) ≡ Some z))
         → (v : Stamped MultiOp MultiEffect) × In v (u ∷ us) × (f (update_of v) ≡ Some z)
     on None e i again = let r = again i in (r.0, inr r.1, r.2)
     on (Some y) e (inl s) again = (u, inl refl, e ∙ ap Some s)
     on (Some y) e (inr i) again = let r = again i in (r.0, inr r.1, r.2)
 
-updates_in : {Y : Type 0} (f : Update MultiOp → Option Y) (z : Y) (us : List (Stamped MultiOp MultiEffect)) (u : Stamped MultiOp MultiEffect) → In u us → f (update_of u) ≡ Some z → In z (filter_map f (updates_of us))
+updates_in : {Y : Type 0} (f : Update MultiOp → Option Y) (z : Y) (us : List (Stamped MultiOp MultiEffect)) (u : Stamped MultiOp MultiEffect) → In u us
+    → f (update_of u) ≡ Some z → In z (filter_map f (updates_of us))
 updates_in f z [] u i e = absurd i
-updates_in f z (v ∷ us) u (inl s) e = subst (λ o. In z (cons_option o (filter_map f (updates_of us)))) (sym (ap (λ (w : Stamped MultiOp MultiEffect). f (update_of w)) s ∙ e)) (inl refl)
+updates_in f z (v ∷ us) u (inl s) e =
+    subst (λ o. In z (cons_option o (filter_map f (updates_of us)))) (sym (ap (λ (w : Stamped MultiOp MultiEffect). f (update_of w)) s ∙ e)) (inl refl)
 updates_in {Y} f z (v ∷ us) u (inr i) e = on (f (update_of v)) (updates_in f z us u i e)
   where
     on : (o : Option Y) → In z (filter_map f (updates_of us)) → In z (cons_option o (filter_map f (updates_of us)))
@@ -382,7 +403,8 @@ unfolding holds
 in_held z [] i = absurd i
 in_held z (e ∷ es) i = on e.1 i (in_held z es)
   where
-    on : (o : Option (List ℕ)) → In z (cons_option o (filter_map (λ e. e.1) es)) → (In z (filter_map (λ e. e.1) es) → list_any (λ e. holds z e.1) es ≡ true) → (holds z o || list_any (λ e. holds z e.1) es) ≡ true
+    on : (o : Option (List ℕ)) → In z (cons_option o (filter_map (λ e. e.1) es))
+        → (In z (filter_map (λ e. e.1) es) → list_any (λ e. holds z e.1) es ≡ true) → (holds z o || list_any (λ e. holds z e.1) es) ≡ true
     on None i again = again i
     on (Some v) (inl s) again = ap (λ b. b || list_any (λ e. holds z e.1) es) (subst (λ w. bytes_eq v w ≡ true) s (bytes_eq-itself v))
     on (Some v) (inr i) again = either (bytes_eq v z) (again i)
@@ -396,7 +418,8 @@ unfolding holds
 held_in z [] h = absurd (true≢false (sym h))
 held_in z (e ∷ es) h = on e.1 h (held_in z es)
   where
-    on : (o : Option (List ℕ)) → (holds z o || list_any (λ e. holds z e.1) es) ≡ true → (list_any (λ e. holds z e.1) es ≡ true → In z (filter_map (λ e. e.1) es)) → In z (cons_option o (filter_map (λ e. e.1) es))
+    on : (o : Option (List ℕ)) → (holds z o || list_any (λ e. holds z e.1) es) ≡ true
+        → (list_any (λ e. holds z e.1) es ≡ true → In z (filter_map (λ e. e.1) es)) → In z (cons_option o (filter_map (λ e. e.1) es))
     on None h again = again h
     on (Some v) h again = by (bytes_eq v z) refl h
       where
@@ -434,13 +457,15 @@ module _ (after : Tag → Tag → Bool) (us : List (Stamped MultiOp MultiEffect)
       let w = wrote q live.0 (before after v us) (order_filter (λ x. after (tag_of v.stamp) (tag_of x.stamp)) us order) (sym (was.met q) ∙ live.1) in
       subst (λ k. after (tag_of v.stamp) k ≡ true) w.tag (in_filter (λ x. after (tag_of v.stamp) (tag_of x.stamp)) w.update us w.here).1
 
-  named_overwritten : (u v : Stamped MultiOp MultiEffect) → In v us → names (tag_of u.stamp) v.effect ≡ true → is_overwritten (updates_of us) after (update_of u) ≡ true
+  named_overwritten : (u v : Stamped MultiOp MultiEffect) → In v us → names (tag_of u.stamp) v.effect ≡ true
+      → is_overwritten (updates_of us) after (update_of u) ≡ true
   named_overwritten u v i h =
       any_in (λ w. writes w.op && after w.tag (tag_of u.stamp)) us v i
       (ap (λ o. writes o && after (tag_of v.stamp) (tag_of u.stamp)) (made v i).op ∙ named_after v i (tag_of u.stamp) h)
 
   -- an overwritten write is named by some write
-  overwritten_named : (u : Stamped MultiOp MultiEffect) → In u us → is_overwritten (updates_of us) after (update_of u) ≡ true → Unnamed (tag_of u.stamp) us → ⊥
+  overwritten_named : (u : Stamped MultiOp MultiEffect) → In u us → is_overwritten (updates_of us) after (update_of u) ≡ true → Unnamed (tag_of u.stamp) us
+      → ⊥
   unfolding names
   overwritten_named u i h unnamed =
       let found = in_any (λ w. writes w.op && after w.tag (tag_of u.stamp)) us h in
@@ -456,49 +481,57 @@ module _ (after : Tag → Tag → Bool) (us : List (Stamped MultiOp MultiEffect)
   abbrev surviving : Update MultiOp → Option (List ℕ)
   surviving u = if is_overwritten (updates_of us) after u then None else value_of u.op
 
-  survives : (u : Stamped MultiOp MultiEffect) → In u us → (is_overwritten (updates_of us) after (update_of u) ≡ true → ⊥) → surviving (update_of u) ≡ Some (worth u.effect)
+  survives : (u : Stamped MultiOp MultiEffect) → In u us → (is_overwritten (updates_of us) after (update_of u) ≡ true → ⊥)
+      → surviving (update_of u) ≡ Some (worth u.effect)
   survives u i clear = on (is_overwritten (updates_of us) after (update_of u)) refl
     where
       on : (b : Bool) → is_overwritten (updates_of us) after (update_of u) ≡ b → surviving (update_of u) ≡ Some (worth u.effect)
       on true e = absurd (clear e)
       on false e = ap (λ b. cond b None (value_of u.op)) e ∙ ap value_of (made u i).op
 
-  kept_surviving : (m : Writes) → ((q : Tag) → get m q ≡ entry_after q None us) → (z : List ℕ) → In z (filter_map (λ e. e.1) (entries m)) → In z (filter_map surviving (updates_of us))
+  kept_surviving : (m : Writes) → ((q : Tag) → get m q ≡ entry_after q None us) → (z : List ℕ) → In z (filter_map (λ e. e.1) (entries m))
+      → In z (filter_map surviving (updates_of us))
   kept_surviving m is z i =
       let some = in_entries m z i in
       let now : entry_after some.0 None us ≡ Some (Some z) = sym (is some.0) ∙ some.1 in
       let w = wrote some.0 z us order now in
       let clear : is_overwritten (updates_of us) after (update_of w.update) ≡ true → ⊥ = λ over. elim (any_named (tag_of w.update.stamp) us) [
-        | inl x ↦ never z (sym (named_gone (tag_of w.update.stamp) None us x.0 x.1 x.2) ∙ subst (λ k. entry_after k None us ≡ Some (Some z)) (sym w.tag) now)
+        | inl x ↦ never z (sym (named_gone (tag_of w.update.stamp) None us x.0 x.1 x.2)
+            ∙ subst (λ k. entry_after k None us ≡ Some (Some z)) (sym w.tag) now)
         | inr unnamed ↦ overwritten_named w.update w.here over unnamed
       ] in
       updates_in surviving z us w.update w.here (survives w.update w.here clear ∙ ap Some w.value)
 
-  surviving_kept : (m : Writes) → ((q : Tag) → get m q ≡ entry_after q None us) → (z : List ℕ) → In z (filter_map surviving (updates_of us)) → In z (filter_map (λ e. e.1) (entries m))
+  surviving_kept : (m : Writes) → ((q : Tag) → get m q ≡ entry_after q None us) → (z : List ℕ) → In z (filter_map surviving (updates_of us))
+      → In z (filter_map (λ e. e.1) (entries m))
   surviving_kept m is z i =
       let found = in_updates surviving z us i in
       let u = found.0 in
       on u found.1 (is_overwritten (updates_of us) after (update_of u)) refl found.2
     where
-      on : (u : Stamped MultiOp MultiEffect) → In u us → (b : Bool) → is_overwritten (updates_of us) after (update_of u) ≡ b → cond b None (value_of u.op) ≡ Some z → In z (filter_map (λ e. e.1) (entries m))
+      on : (u : Stamped MultiOp MultiEffect) → In u us → (b : Bool) → is_overwritten (updates_of us) after (update_of u) ≡ b
+          → cond b None (value_of u.op) ≡ Some z → In z (filter_map (λ e. e.1) (entries m))
       on u here true e h = absurd (cc)
       on u here false e h = by (any_named (tag_of u.stamp) us)
         where
           value : Some (worth u.effect) ≡ Some z
           value = ap value_of (sym (made u here).op) ∙ h
 
-          by : ((v : Stamped MultiOp MultiEffect) × In v us × (names (tag_of u.stamp) v.effect ≡ true)) ⊎ Unnamed (tag_of u.stamp) us → In z (filter_map (λ e. e.1) (entries m))
+          by : ((v : Stamped MultiOp MultiEffect) × In v us × (names (tag_of u.stamp) v.effect ≡ true)) ⊎ Unnamed (tag_of u.stamp) us
+              → In z (filter_map (λ e. e.1) (entries m))
           by (inl x) = absurd (true≢false (sym (named_overwritten u x.0 x.1 x.2) ∙ e))
           by (inr unnamed) = entries_in m z (tag_of u.stamp) (is (tag_of u.stamp) ∙ kept (tag_of u.stamp) us u order unnamed here refl ∙ ap Some value)
 
 get-multi_initial : (q : Tag) → get multi_initial q ≡ None
 get-multi_initial q = get-empty tag_cmp q
 
-prepared_made : (after : Tag → Tag → Bool) (us : List (Stamped MultiOp MultiEffect)) (u : Stamped MultiOp MultiEffect) → WasPrepared multi_initial multi_updated multi_prepared after us u → WasMade after us u
+prepared_made : (after : Tag → Tag → Bool) (us : List (Stamped MultiOp MultiEffect)) (u : Stamped MultiOp MultiEffect)
+    → WasPrepared multi_initial multi_updated multi_prepared after us u → WasMade after us u
 prepared_made after us u h =
     let earlier = before after u us in
     was_made after us u (state_after multi_updated multi_initial (with_sums h.sum earlier))
-    (λ q. get-after multi_initial (with_sums h.sum earlier) q ∙ ap (λ o. entry_after q o (with_sums h.sum earlier)) (get-multi_initial q) ∙ entry_after-with_sums h.sum q None earlier)
+    (λ q. get-after multi_initial (with_sums h.sum earlier) q ∙ ap (λ o. entry_after q o (with_sums h.sum earlier)) (get-multi_initial q)
+    ∙ entry_after-with_sums h.sum q None earlier)
     u.op refl h.effect
 
 pub multi-in_order : AnswersInOrder multi_initial multi_updated multi_answered multi_prepared multi_value

@@ -7,7 +7,7 @@ use Rattle.std.specs.FinMap as finite
 use Rattle.std.specs.FinMap.{FinMap, get, insert, entries}
 use Rattle.us_kind.specs.Keys.{keys_where}
 use Rattle.us_kind.specs.Tags.{tag_cmp, tag_code}
-use Rattle.us_kind.specs.Words.{bytes_less}
+use Rattle.us_kind.specs.Comparison.{bytes_less}
 use Rattle.us_kind.specs.declared.identity.Tag.{Tag}
 
 -- the value of each write, or none where it was overwritten

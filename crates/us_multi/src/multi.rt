@@ -47,7 +47,7 @@ impl Replicated for MultiValue {
 
     ghost is_reading = { multi_reads };
 
-    ghost counted = { λ _. 0 };
+    ghost update_count = { λ _. 0 };
 
     ghost value = { multi_value };
 

@@ -3,11 +3,11 @@ use Rattle.std.proofs.Common.{◌≡◌, ⊎_elim, ◌<◌, List, [], ◌∷◌,
 use Rattle.std.specs.Prelude.{not, filter}
 use Rattle.std.specs.List.{list_any}
 use Rattle.std.proofs.lemmas.Bool.{and_parts, and_from, not-true}
-use Rattle.us_kind.specs.Words.{In, tid_eq}
+use Rattle.us_kind.specs.Comparison.{In, tid_eq}
 use Rattle.us_kind.specs.Updates.{AllLater}
 use Rattle.us_kind.specs.Histories.{all_from}
 use Rattle.us_kind.specs.Ascending.{all_in}
-use Rattle.us_kind.proofs.ListLemmas.{in_front, in_back, in_either, in_filter, filter_in, in_map, from_map, goes_by}
+use Rattle.us_kind.proofs.ListLemmas.{in_front, in_back, in_either, in_filter, filter_in, in_map, from_map, prefix_append}
 use Rattle.us_kind.proofs.Members.{later_append, later_filter}
 use Rattle.us_kind.proofs.TestLemmas.{tid_eq-true, tid_eq-same}
 use Rattle.us_base.specs.Vector.{entry}
@@ -95,7 +95,7 @@ module _ (spaces : Spaces) (p : Partition) (l : Ledger) (part : PartitionFacts s
           ((part.decided f.source f.here).kept f.own)
 
   pub later_full : Later p (full spaces p l)
-  later_full = record { knows = omega arith; log = goes_by p.log (pending spaces p.log cs); new = above_known; got = refl }
+  later_full = record { knows = omega arith; log = prefix_append p.log (pending spaces p.log cs); new = above_known; received = refl }
 
   -- THE LIST
   once : AllLater (λ (e f : LogTx). e.tid ≡ f.tid → ⊥) ds

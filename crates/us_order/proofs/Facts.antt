@@ -2,9 +2,9 @@
 use Rattle.std.proofs.Common.{◌≡◌, ◌⊎◌, inl, inr, ⊎_elim, ℕ, ◌+◌, ◌<◌, ◌≤◌, ◌^◌, List, [], ◌∷◌, ◌++◌, length, append-nil, append_assoc, Bool, true}
 use Rattle.std.proofs.Common.{false, refl, sym, ap, ◌∙◌, subst, cond, true≢false}
 use Rattle.std.specs.Prelude.{Some, Option}
-use Rattle.us_kind.specs.Words.{In, tid_eq}
+use Rattle.us_kind.specs.Comparison.{In, tid_eq}
 use Rattle.us_kind.specs.declared.identity.Tid.{Tid}
-use Rattle.us_kind.proofs.ListLemmas.{in_append, in_split, in_later, in_grown, GoesOn, goes_nowhere, goes_further}
+use Rattle.us_kind.proofs.ListLemmas.{in_append, in_split, in_later, in_grown, IsPrefix, prefix_refl, prefix_trans}
 use Rattle.us_kind.proofs.TestLemmas.{tid_eq-true, tid_eq-same}
 use Rattle.us_base.specs.Vector.{entry, at_most}
 use Rattle.us_kind.specs.Updates.{AllLater}
@@ -22,9 +22,9 @@ use Rattle.us_history.specs.declared.LogTx.{LogTx}
 use Rattle.us_model.specs.declared.partition.PreparedTx.{PreparedTx}
 use Rattle.us_model.specs.declared.partition.Get.{Get}
 use Rattle.us_model.specs.declared.coordinator.Transaction.{Transaction}
-use Rattle.us_model.specs.declared.coordinator.Ask.{Ask}
-use Rattle.us_model.specs.declared.coordinator.Waiting.{Waiting}
-use Rattle.us_model.specs.declared.coordinator.Waiting.TheVariants as waits
+use Rattle.us_model.specs.declared.coordinator.QueuedRequest.{QueuedRequest}
+use Rattle.us_model.specs.declared.coordinator.Await.{Await}
+use Rattle.us_model.specs.declared.coordinator.Await.TheVariants as waits
 use Rattle.us_model.specs.State.{Partition, Spaces}
 use Rattle.us_history.specs.Histories.{Begun, Performed, Committed, History, ops_of, committed_in, has_own_vector}
 use Rattle.us_history.specs.States.{own_effects, state_at}
@@ -63,7 +63,7 @@ ops_of-same tid xs d = ops_of-append tid xs _ ∙ ap (λ l. ops_of tid xs ++ l) 
     on false e = absurd (true≢false (sym e))
 
 -- nothing new was told of this one
-pub ops_of-still : (tid : Tid) (xs ys : List Performed) (g : GoesOn xs ys) → ((q : Performed) → In q g.rest → q.tid ≡ tid → ⊥) → ops_of tid ys ≡ ops_of tid xs
+pub ops_of-still : (tid : Tid) (xs ys : List Performed) (g : IsPrefix xs ys) → ((q : Performed) → In q g.rest → q.tid ≡ tid → ⊥) → ops_of tid ys ≡ ops_of tid xs
 ops_of-still tid xs ys g none = ap (ops_of tid) g.is ∙ ops_of-append tid xs g.rest ∙ ap (λ l. ops_of tid xs ++ l) (ops_of-none tid g.rest none) ∙ append-nil _
 
 -- ANSWERS
@@ -245,13 +245,13 @@ pub record SharedFacts (l : Ledger) : Type 0 where
 
 -- A SESSION
 
-abbrev pub Waits : Ledger → Transaction → Waiting → Type 0
+abbrev pub Waits : Ledger → Transaction → Await → Type 0
 Waits l t waits.Nothing = Unit {0}
 Waits l t (waits.Version at place item op) =
     (place ≡ length t.ops + 1) × In (message.Get t.tid place at t.snapshot item op (own_effects item t.writes)) l.messages
 Waits l t (waits.Prepared at missing told) = HasWrites t.writes × (missing ≡ 1 ∷ []) × (told ≡ []) × In (message.Prepare t.tid t.snapshot t.writes) l.messages
 
-abbrev pub WaitsForPrepared : Waiting → Type 0
+abbrev pub WaitsForPrepared : Await → Type 0
 WaitsForPrepared waits.Nothing = ⊥
 WaitsForPrepared (waits.Version at place item op) = ⊥
 WaitsForPrepared (waits.Prepared at missing told) = Unit {0}
@@ -260,7 +260,7 @@ abbrev pub begun_as : ℕ → Transaction → Begun
 begun_as n t = record { tid = t.tid; session = name n; snapshot = t.snapshot }
 
 -- the running transaction of session n, whose questions are of frames up to the last one that was performed
-pub record RunningFacts (spaces : Spaces) (log : List LogTx) (l : Ledger) (n last : ℕ) (w : Waiting) (t : Transaction) : Type 0 where
+pub record RunningFacts (spaces : Spaces) (log : List LogTx) (l : Ledger) (n last : ℕ) (w : Await) (t : Transaction) : Type 0 where
   pub begun : In (begun_as n t) l.history.begun
   pub ops : t.ops ≡ ops_of t.tid l.history.performed
   pub writes : t.writes ≡ writes_in (acts_of spaces log t.tid t.snapshot t.ops)
@@ -271,12 +271,12 @@ pub record RunningFacts (spaces : Spaces) (log : List LogTx) (l : Ledger) (n las
   pub waiting : Waits l t w
 
 -- a session, and the last of its frames that was performed: those that wait came later
-pub record SessionFacts (spaces : Spaces) (log : List LogTx) (l : Ledger) (n : ℕ) (past : List ℕ) (running : Option Transaction) (w : Waiting)
-    (asks : List Ask) (asked : ℕ) : Type 0 where
+pub record SessionFacts (spaces : Spaces) (log : List LogTx) (l : Ledger) (n : ℕ) (past : List ℕ) (running : Option Transaction) (w : Await)
+    (requests : List QueuedRequest) (asked : ℕ) : Type 0 where
   pub covered : (c : Committed) → In c l.history.committed → c.begun.session ≡ name n → at_most c.vector past ≡ true
   pub small : entry past 1 ≤ 2 ^ 62
   pub last : ℕ
-  pub queue : Ascends last asks asked
+  pub queue : Ascends last requests asked
   pub runs : (t : Transaction) → running ≡ Some t → RunningFacts spaces log l n last w t
 
 -- GROWTH
@@ -299,19 +299,19 @@ FromSession l n _ = ⊥
 
 -- what session n may do to what is shared
 pub record Grows (n : ℕ) (l l' : Ledger) : Type 0 where
-  pub messages : GoesOn l.messages l'.messages
+  pub messages : IsPrefix l.messages l'.messages
   pub sent : (m : Message) → In m messages.rest → FromSession l' n m
-  pub begun : GoesOn l.history.begun l'.history.begun
+  pub begun : IsPrefix l.history.begun l'.history.begun
   pub begins : (b : Begun) → In b begun.rest → b.session ≡ name n
-  pub performed : GoesOn l.history.performed l'.history.performed
+  pub performed : IsPrefix l.history.performed l'.history.performed
   pub performs : (q : Performed) → In q performed.rest → OfSession l'.history.begun n q.tid
-  pub committed : GoesOn l.history.committed l'.history.committed
+  pub committed : IsPrefix l.history.committed l'.history.committed
   pub decides : (c : Committed) → In c committed.rest → c.begun.session ≡ name n
 
-of_session-later : (bs bs' : List Begun) (n : ℕ) (tid : Tid) → GoesOn bs bs' → OfSession bs n tid → OfSession bs' n tid
+of_session-later : (bs bs' : List Begun) (n : ℕ) (tid : Tid) → IsPrefix bs bs' → OfSession bs n tid → OfSession bs' n tid
 of_session-later bs bs' n tid g h = record { by = h.by; here = in_later _ g h.here; tid_is = h.tid_is; session_is = h.session_is }
 
-from_session-later : (l l' : Ledger) (n : ℕ) (m : Message) → GoesOn l.history.begun l'.history.begun → FromSession l n m → FromSession l' n m
+from_session-later : (l l' : Ledger) (n : ℕ) (m : Message) → IsPrefix l.history.begun l'.history.begun → FromSession l n m → FromSession l' n m
 from_session-later l l' n (message.Get tid place at snapshot item op own) g h = of_session-later l.history.begun l'.history.begun n tid g h
 from_session-later l l' n (message.Version v) g h = h
 from_session-later l l' n (message.Prepare tid snapshot writes) g h = of_session-later l.history.begun l'.history.begun n tid g h
@@ -321,31 +321,31 @@ from_session-later l l' n _ g h = h
 
 pub grows_further : {n : ℕ} {a b c : Ledger} → Grows n a b → Grows n b c → Grows n a c
 grows_further {n} {a} {b} {c} g h = record {
-  messages = goes_further g.messages h.messages;
+  messages = prefix_trans g.messages h.messages;
   sent = in_append _ g.messages.rest h.messages.rest (λ m i. from_session-later b c n m h.begun (g.sent m i)) h.sent;
-  begun = goes_further g.begun h.begun;
+  begun = prefix_trans g.begun h.begun;
   begins = in_append _ g.begun.rest h.begun.rest g.begins h.begins;
-  performed = goes_further g.performed h.performed;
+  performed = prefix_trans g.performed h.performed;
   performs =
       in_append _ g.performed.rest h.performed.rest (λ q i. of_session-later b.history.begun c.history.begun n q.tid h.begun (g.performs q i))
       h.performs;
-  committed = goes_further g.committed h.committed;
+  committed = prefix_trans g.committed h.committed;
   decides = in_append _ g.committed.rest h.committed.rest g.decides h.decides;
 }
 
 pub grows_nowhere : (n : ℕ) (l : Ledger) → Grows n l l
 grows_nowhere n l = record {
-  messages = goes_nowhere _;
+  messages = prefix_refl _;
   sent = λ m i. absurd i;
-  begun = goes_nowhere _;
+  begun = prefix_refl _;
   begins = λ b i. absurd i;
-  performed = goes_nowhere _;
+  performed = prefix_refl _;
   performs = λ q i. absurd i;
-  committed = goes_nowhere _;
+  committed = prefix_refl _;
   decides = λ c i. absurd i;
 }
 
-pub waits-later : (l l' : Ledger) (t : Transaction) (w : Waiting) → GoesOn l.messages l'.messages → Waits l t w → Waits l' t w
+pub waits-later : (l l' : Ledger) (t : Transaction) (w : Await) → IsPrefix l.messages l'.messages → Waits l t w → Waits l' t w
 waits-later l l' t waits.Nothing g h = tt
 waits-later l l' t (waits.Version at place item op) g h = (h.0, in_later _ g h.1)
 waits-later l l' t (waits.Prepared at missing told) g h = (h.0, h.1, h.2, in_later _ g h.3)
@@ -362,7 +362,7 @@ apart_of last h n m tid b all o i e f =
 name-one : (n m : ℕ) (s : SessionName) → s ≡ name n → s ≡ name m → n ≡ m
 name-one n m s e f = ap (λ (x : SessionName). x.number) (sym e ∙ f)
 
-running_frame : (spaces : Spaces) (log : List LogTx) (n m last : ℕ) (l l' : Ledger) (w : Waiting) (t : Transaction) → SharedFacts l' → Grows n l l'
+running_frame : (spaces : Spaces) (log : List LogTx) (n m last : ℕ) (l l' : Ledger) (w : Await) (t : Transaction) → SharedFacts l' → Grows n l l'
     → (n ≡ m → ⊥) → RunningFacts spaces log l m last w t → RunningFacts spaces log l' m last w t
 running_frame spaces log n m last l l' w t all g apart h =
     let mine = in_later _ g.begun h.begun in
@@ -383,10 +383,10 @@ running_frame spaces log n m last l l' w t all g apart h =
       waiting = waits-later l l' t w g.messages h.waiting;
     }
 
-pub session_frame : (spaces : Spaces) (log : List LogTx) (n m : ℕ) (l l' : Ledger) (past : List ℕ) (running : Option Transaction) (w : Waiting)
-    (asks : List Ask) (asked : ℕ) → SharedFacts l' → Grows n l l' → (n ≡ m → ⊥) → SessionFacts spaces log l m past running w asks asked
-    → SessionFacts spaces log l' m past running w asks asked
-session_frame spaces log n m l l' past running w asks asked all g apart h = record {
+pub session_frame : (spaces : Spaces) (log : List LogTx) (n m : ℕ) (l l' : Ledger) (past : List ℕ) (running : Option Transaction) (w : Await)
+    (requests : List QueuedRequest) (asked : ℕ) → SharedFacts l' → Grows n l l' → (n ≡ m → ⊥) → SessionFacts spaces log l m past running w requests asked
+    → SessionFacts spaces log l' m past running w requests asked
+session_frame spaces log n m l l' past running w requests asked all g apart h = record {
   covered = λ c i e. ⊎_elim (λ j. h.covered c j e) (λ j. absurd (apart (name-one n m _ (g.decides c j) e))) (in_grown c g.committed i);
   small = h.small;
   last = h.last;

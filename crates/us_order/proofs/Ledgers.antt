@@ -8,7 +8,7 @@ use Rattle.us_peer_wire.specs.declared.message.Packet.{Packet}
 use Rattle.us_peer_wire.specs.declared.message.Message.{Message}
 use Rattle.us_model.specs.declared.event.Note.{Note}
 use Rattle.us_model.specs.declared.event.ClientOut.{ClientOut}
-use Rattle.us_model.specs.declared.coordinator.Desk.{Desk}
+use Rattle.us_model.specs.declared.coordinator.Context.{Context}
 use Rattle.us_model.specs.declared.coordinator.Session.{Session}
 use Rattle.us_model.specs.State.{Partition}
 use Rattle.us_history.specs.Histories.{History}
@@ -47,8 +47,8 @@ pub noted_all-append : (h : History) (ms ns : List Note) → noted_all h (ms ++ 
 noted_all-append h [] ns = refl
 noted_all-append h (m ∷ ms) ns = noted_all-append (noted h m) ms ns
 
--- the ledger is what there was before the event, and what the desk has given out since
-pub record Stands (b : Ledger) (p : Partition) (l : Ledger) (d : Desk) : Type 0 where
+-- the ledger is what there was before the event, and what the context has given out since
+pub record Stands (b : Ledger) (p : Partition) (l : Ledger) (d : Context) : Type 0 where
   pub actor : d.me ≡ me
   pub one : d.shape.parts ≡ 1
   pub base : d.base ≡ known me p
@@ -56,7 +56,7 @@ pub record Stands (b : Ledger) (p : Partition) (l : Ledger) (d : Desk) : Type 0 
   pub messages : l.messages ≡ b.messages ++ messages_of d.out.packets
   pub history : l.history ≡ noted_all b.history d.out.notes
 
-pub stands_packets : (b : Ledger) (p : Partition) (l : Ledger) (d : Desk) (ps : List Packet) → Stands b p l d
+pub stands_packets : (b : Ledger) (p : Partition) (l : Ledger) (d : Context) (ps : List Packet) → Stands b p l d
     → Stands b p (with_messages l (messages_of ps)) (with_packets d ps)
 stands_packets b p l d ps h = record {
   actor = h.actor;
@@ -69,7 +69,7 @@ stands_packets b p l d ps h = record {
   history = h.history;
 }
 
-pub stands_note : (b : Ledger) (p : Partition) (l : Ledger) (d : Desk) (n : Note) → Stands b p l d → Stands b p (with_told l n) (with_note d n)
+pub stands_note : (b : Ledger) (p : Partition) (l : Ledger) (d : Context) (n : Note) → Stands b p l d → Stands b p (with_told l n) (with_note d n)
 stands_note b p l d n h = record {
   actor = h.actor;
   one = h.one;
@@ -79,8 +79,8 @@ stands_note b p l d n h = record {
   history = ap (λ k. noted k n) h.history ∙ sym (noted_all-append b.history d.out.notes (n ∷ []));
 }
 
-pub stands_client : (b : Ledger) (p : Partition) (l : Ledger) (d : Desk) (c : ClientOut) → Stands b p l d → Stands b p l (with_client d c)
+pub stands_client : (b : Ledger) (p : Partition) (l : Ledger) (d : Context) (c : ClientOut) → Stands b p l d → Stands b p l (with_client d c)
 stands_client b p l d c h = record { actor = h.actor; one = h.one; base = h.base; seq = h.seq; messages = h.messages; history = h.history }
 
-pub stands_tell : (b : Ledger) (p : Partition) (l : Ledger) (d : Desk) (s : Session) (r : Reply) → Stands b p l d → Stands b p l (tell d s r)
+pub stands_tell : (b : Ledger) (p : Partition) (l : Ledger) (d : Context) (s : Session) (r : Reply) → Stands b p l d → Stands b p l (tell d s r)
 stands_tell b p l d s r h = cond_both s.closed d (with_client d (reply_out d s r false)) (Stands b p l) (λ _. h) (λ _. stands_client b p l d _ h)

@@ -2,9 +2,9 @@
 use Rattle.std.proofs.Common.{◌≡◌, ◌⊎◌, inl, inr, ⊎_elim, ℕ, zero, suc, ◌+◌, ◌≤◌, ◌^◌, List, [], ◌∷◌, ◌++◌, Bool, true, false, ◌||◌, refl, sym, ap}
 use Rattle.std.proofs.Common.{◌∙◌, subst, arith, cond, true≢false}
 use Rattle.std.specs.Prelude.{Some, Option, slice_get}
-use Rattle.us_kind.specs.Words.{In, tid_eq}
+use Rattle.us_kind.specs.Comparison.{In, tid_eq}
 use Rattle.us_kind.specs.declared.identity.Tid.{Tid}
-use Rattle.us_kind.proofs.ListLemmas.{in_front, in_either, in_push, in_one, in_append, in_later, in_last, in_filter, GoesOn, goes_nowhere, goes_by}
+use Rattle.us_kind.proofs.ListLemmas.{in_front, in_either, in_push, in_one, in_append, in_later, in_last, in_filter, IsPrefix, prefix_refl, prefix_append}
 use Rattle.us_kind.proofs.TestLemmas.{tid_eq-true, tid_eq-same}
 use Rattle.us_base.specs.Vector.{entry, at_most}
 use Rattle.us_base.proofs.Vectors.{at_most-true, at_most-from, entry-with_same, entry-with_other}
@@ -19,8 +19,8 @@ use Rattle.us_history.specs.declared.LogTx.{LogTx}
 use Rattle.us_model.specs.declared.partition.PreparedTx.{PreparedTx}
 use Rattle.us_model.specs.declared.partition.Get.{Get}
 use Rattle.us_model.specs.declared.coordinator.Transaction.{Transaction}
-use Rattle.us_model.specs.declared.coordinator.Ask.{Ask}
-use Rattle.us_model.specs.declared.coordinator.Waiting.{Waiting}
+use Rattle.us_model.specs.declared.coordinator.QueuedRequest.{QueuedRequest}
+use Rattle.us_model.specs.declared.coordinator.Await.{Await}
 use Rattle.us_model.specs.State.{Partition, Spaces}
 use Rattle.us_history.specs.Histories.{Committed, has_own_vector, ops_of}
 use Rattle.us_history.specs.States.{after_own, kind_for, own_effects, state_at}
@@ -39,20 +39,20 @@ known-later p p' v l h = at_most-from v (known me p') at
   where
     at : (i : ℕ) → entry v i ≤ entry (known me p') i
     at zero =
-        rw l.got (omega (
+        rw l.received (omega (
           arith,
           at_most-true v (known me p) h 0,
-          entry-with_other p.got 1 (horizon p) 0 (λ e. cc),
-          entry-with_other p.got 1
+          entry-with_other p.received 1 (horizon p) 0 (λ e. cc),
+          entry-with_other p.received 1
               (horizon p') 0 (λ e. cc),
         ))
-    at (suc zero) = omega (arith, l.knows, at_most-true v (known me p) h 1, entry-with_same p.got 1 (horizon p), entry-with_same p'.got 1 (horizon p'))
+    at (suc zero) = omega (arith, l.knows, at_most-true v (known me p) h 1, entry-with_same p.received 1 (horizon p), entry-with_same p'.received 1 (horizon p'))
     at (suc (suc i)) =
-        rw l.got (omega (
+        rw l.received (omega (
           arith,
           at_most-true v (known me p) h (suc (suc i)),
-          entry-with_other p.got 1 (horizon p) (suc (suc i)) (λ e. omega arith),
-          entry-with_other p.got 1 (horizon p') (suc (suc i)) (λ e. omega arith),
+          entry-with_other p.received 1 (horizon p) (suc (suc i)) (λ e. omega arith),
+          entry-with_other p.received 1 (horizon p') (suc (suc i)) (λ e. omega arith),
         ))
 
 -- a state that is read is the same ever after
@@ -106,7 +106,7 @@ FromPartition _ = ⊥
 pub record Moves (spaces : Spaces) (p p' : Partition) (l : Ledger) (ms : List Message) : Type 0 where
   pub later : Later p p'
   pub ok : PartitionOk p'
-  pub done : GoesOn p.done p'.done
+  pub done : IsPrefix p.done p'.done
   pub sent : (m : Message) → In m ms → FromPartition m
   pub true' : (m : Message) → In m ms → IsTrue spaces p' (with_messages l ms) m
   pub parked : (g : Get) → In g p'.parked → In (message.Get g.tid g.place g.at g.snapshot g.item g.op g.own) l.messages
@@ -164,7 +164,7 @@ part_moves spaces p p' l ms v h = record {
 }
 
 -- and what it leaves of a session
-running_moves : (spaces : Spaces) (p p' : Partition) (l : Ledger) (ms : List Message) (n last : ℕ) (w : Waiting) (t : Transaction) → Later p p'
+running_moves : (spaces : Spaces) (p p' : Partition) (l : Ledger) (ms : List Message) (n last : ℕ) (w : Await) (t : Transaction) → Later p p'
     → PartitionFacts spaces p l → ((m : Message) → In m ms → FromPartition m) → RunningFacts spaces p.log l n last w t
     → RunningFacts spaces p'.log (with_messages l ms) n last w t
 running_moves spaces p p' l ms n last w t later h from run = record {
@@ -177,13 +177,13 @@ running_moves spaces p p' l ms n last w t later h from run = record {
   latest = run.latest;
   gets = λ place at sn i o own j. ⊎_elim (λ k. run.gets place at sn i o own k) (λ k. absurd (from _ k)) (in_either _ l.messages ms j);
   prepares = λ sn ws j. ⊎_elim (λ k. run.prepares sn ws k) (λ k. absurd (from _ k)) (in_either _ l.messages ms j);
-  waiting = waits-later l (with_messages l ms) t w (goes_by l.messages ms) run.waiting;
+  waiting = waits-later l (with_messages l ms) t w (prefix_append l.messages ms) run.waiting;
 }
 
 pub session_moves : (spaces : Spaces) (p p' : Partition) (l : Ledger) (ms : List Message) (n : ℕ) (past : List ℕ) (running : Option Transaction)
-    (w : Waiting) (asks : List Ask) (asked : ℕ) → Later p p' → PartitionFacts spaces p l → ((m : Message) → In m ms → FromPartition m)
-    → SessionFacts spaces p.log l n past running w asks asked → SessionFacts spaces p'.log (with_messages l ms) n past running w asks asked
-session_moves spaces p p' l ms n past running w asks asked later part from h =
+    (w : Await) (requests : List QueuedRequest) (asked : ℕ) → Later p p' → PartitionFacts spaces p l → ((m : Message) → In m ms → FromPartition m)
+    → SessionFacts spaces p.log l n past running w requests asked → SessionFacts spaces p'.log (with_messages l ms) n past running w requests asked
+session_moves spaces p p' l ms n past running w requests asked later part from h =
     record {
       covered = h.covered;
       small = h.small;
@@ -204,7 +204,7 @@ get_moves spaces p l g h all asked =
     record {
       later = get_later p g h.ok;
       ok = get_keeps p g small h.ok;
-      done = goes_nowhere _;
+      done = prefix_refl _;
       sent = λ m i. absurd i;
       true' = λ m i. absurd i;
       parked = in_push _ p.parked g h.parked asked;
@@ -269,8 +269,8 @@ answers_moves spaces p l h =
     let ms = messages_of (versions me spaces (known me p) p.log p.parked) in
     record {
       later = later_same p (after_answers p) (omega arith) refl refl;
-      ok = record { once = h.ok.once; below_clock = h.ok.below_clock; positive = h.ok.positive; small = h.ok.small; got = h.ok.got };
-      done = goes_nowhere _;
+      ok = record { once = h.ok.once; below_clock = h.ok.below_clock; positive = h.ok.positive; small = h.ok.small; received = h.ok.received };
+      done = prefix_refl _;
       sent = versions_from spaces (known me p) p.log p.parked;
       true' = versions_true spaces p l ms p.parked h.parked;
       parked = λ g i. h.parked g (in_filter _ g p.parked i).0;
@@ -340,7 +340,7 @@ prepare_moves spaces p l tid sn ws small fresh h asked =
     record {
       later = prepared_later p tid sn ws h.ok;
       ok = prepared_keeps p tid sn ws small (λ i. true≢false (sym (contains-in tid p.done i) ∙ fresh)) h.ok;
-      done = goes_by p.done (tid ∷ []);
+      done = prefix_append p.done (tid ∷ []);
       sent = in_one FromPartition m tt;
       true' = in_one (IsTrue spaces p' (with_messages l (m ∷ []))) m (record { done = in_last p.done tid; until = inl there });
       parked = h.parked;
@@ -399,7 +399,7 @@ commit_moves spaces p l tid v i q h all asked got here of le =
     record {
       later = later;
       ok = committed_keeps p v i q (subst (λ x. entry x 1 ≤ 2 ^ 62) d.vector_is f.small) got h.ok;
-      done = goes_nowhere _;
+      done = prefix_refl _;
       sent = λ m j. absurd j;
       true' = λ m j. absurd j;
       parked = h.parked;

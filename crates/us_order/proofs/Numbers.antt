@@ -1,6 +1,6 @@
 -- After every note each session's committed transactions are numbered from 1, and all are causal.
 use Rattle.std.proofs.Common.{◌≡◌, List, [], ◌∷◌, false, Option, Some, None, refl}
-use Rattle.us_kind.specs.Words.{In}
+use Rattle.us_kind.specs.Comparison.{In}
 use Rattle.us_kind.proofs.ListLemmas.{in_push}
 use Rattle.us_history.specs.Histories.{Begun, Committed, History, AreNumbered, no_history, begun_of}
 use Rattle.us_snapshots.proofs.Numbers.{numbers_more}

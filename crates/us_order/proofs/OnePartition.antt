@@ -7,10 +7,10 @@ use Rattle.us_value.specs.declared.item.Item.{Item}
 use Rattle.us_value.specs.declared.item.Write.{Write}
 use Rattle.us_peer_wire.specs.declared.message.Message.TheVariants as message
 use Rattle.us_model.specs.declared.coordinator.Transaction.{Transaction}
-use Rattle.us_model.specs.declared.coordinator.Waiting.TheVariants as waits
+use Rattle.us_model.specs.declared.coordinator.Await.TheVariants as waits
 use Rattle.us_model.specs.declared.coordinator.Session.{Session}
-use Rattle.us_model.specs.declared.coordinator.Desk.{Desk}
-use Rattle.us_model.specs.Sessions.{Acted, with_packets, to_partition, home, is_kept_by, writes_on, is_written, partitions_written, prepares, commits}
+use Rattle.us_model.specs.declared.coordinator.Context.{Context}
+use Rattle.us_model.specs.Sessions.{SessionStep, with_packets, to_partition, home, is_kept_by, writes_on, is_written, partitions_written, prepares, commits}
 use Rattle.us_model.specs.Sessions.{sent_out, ended, decided}
 use Rattle.us_snapshots.proofs.Acts.{HasWrites}
 
@@ -39,25 +39,25 @@ partitions_one shape ws one has =
     ∙ ap (λ b. cond b (1 ∷ []) []) (written_one shape ws one has)
 
 -- COMMIT of a transaction with writes: the partition is asked to prepare all of them
-abbrev pub sent_to_one : Desk → Session → ℕ → Transaction → Acted
+abbrev pub sent_to_one : Context → Session → ℕ → Transaction → SessionStep
 sent_to_one d s at tx =
     record {
-      desk = with_packets d (to_partition d 1 (message.Prepare tx.tid tx.snapshot tx.writes) ∷ []);
+      context = with_packets d (to_partition d 1 (message.Prepare tx.tid tx.snapshot tx.writes) ∷ []);
       session = record s { waits = waits.Prepared at (1 ∷ []) [] };
     }
 
-pub sent_out_one : (d : Desk) (s : Session) (at : ℕ) (tx : Transaction) → d.shape.parts ≡ 1 → HasWrites tx.writes → sent_out d s at tx ≡ sent_to_one d s at tx
+pub sent_out_one : (d : Context) (s : Session) (at : ℕ) (tx : Transaction) → d.shape.parts ≡ 1 → HasWrites tx.writes → sent_out d s at tx ≡ sent_to_one d s at tx
 sent_out_one d s at tx one has =
     let parts = partitions_one d.shape tx.writes one has in
     let writes = writes_on_one d.shape tx.writes one in
-    (λ i. record { desk = with_packets d (prepares d tx (parts i)); session = record s { waits = waits.Prepared at (parts i) [] } })
+    (λ i. record { context = with_packets d (prepares d tx (parts i)); session = record s { waits = waits.Prepared at (parts i) [] } })
     ∙ (λ i. record {
-      desk = with_packets d (to_partition d 1 (message.Prepare tx.tid tx.snapshot (writes i)) ∷ []);
+      context = with_packets d (to_partition d 1 (message.Prepare tx.tid tx.snapshot (writes i)) ∷ []);
       session = record s { waits = waits.Prepared at (1 ∷ []) [] };
     })
 
 -- PREPARED: it is told the decision
-pub decided_at_one : (d : Desk) (s : Session) (at : ℕ) (tx : Transaction) (vector : List ℕ) → d.shape.parts ≡ 1 → HasWrites tx.writes
+pub decided_at_one : (d : Context) (s : Session) (at : ℕ) (tx : Transaction) (vector : List ℕ) → d.shape.parts ≡ 1 → HasWrites tx.writes
     → decided d s at tx vector ≡ ended (with_packets d (to_partition d 1 (message.Commit tx.tid vector) ∷ [])) s at tx vector
 decided_at_one d s at tx vector one has =
     ap (λ parts. ended (with_packets d (commits d tx.tid vector parts)) s at tx vector) (partitions_one d.shape tx.writes one has)

@@ -5,13 +5,13 @@ use Rattle.std.specs.Prelude.{Some, None, Option, nat_le, slice_get, remove, pos
 use Rattle.std.proofs.lemmas.Bool.{cond_both, leb-true}
 use Rattle.std.proofs.lemmas.List.Quantifiers.{position-Some}
 use Rattle.std.proofs.lemmas.Option.{get_or_from_slice_get}
-use Rattle.us_kind.specs.Words.{In}
+use Rattle.us_kind.specs.Comparison.{In}
 use Rattle.us_kind.specs.declared.identity.Tid.{Tid}
 use Rattle.us_kind.specs.Updates.{AllLater}
 use Rattle.us_kind.specs.Histories.{all_from}
 use Rattle.us_kind.specs.Ascending.{all_in}
 use Rattle.us_kind.proofs.Members.{later_push}
-use Rattle.us_kind.proofs.ListLemmas.{in_push, in_append, in_front, in_last, in_split, GoesOn, goes_by, goes_further, in_got}
+use Rattle.us_kind.proofs.ListLemmas.{in_push, in_append, in_front, in_last, in_split, IsPrefix, prefix_append, prefix_trans, in_got}
 use Rattle.us_base.specs.Vector.{entry, at_most, sum_of, zero as no_vector}
 use Rattle.us_base.proofs.Vectors.{at_most-true, entry-with_same}
 use Rattle.us_value.specs.declared.item.Item.{Item}
@@ -43,7 +43,7 @@ pub record PartitionOk (p : Partition) : Type 0 where
   pub below_clock : (q : PreparedTx) → In q p.prepared → q.ts ≤ p.clock
   pub positive : (q : PreparedTx) → In q p.prepared → 0 < q.ts
   pub small : p.clock ≤ 2 ^ 62
-  pub got : p.got ≡ no_vector
+  pub received : p.received ≡ no_vector
 
 least_ts-first : (n : ℕ) (qs : List PreparedTx) → least_ts n qs ≤ n
 least_ts-first n [] = omega arith
@@ -83,20 +83,20 @@ horizon p = own_known p.clock p.prepared
 -- nothing of p is taken back in p'
 pub record Later (p p' : Partition) : Type 0 where
   pub knows : horizon p ≤ horizon p'
-  pub log : GoesOn p.log p'.log
+  pub log : IsPrefix p.log p'.log
   pub new : (e : LogTx) → In e log.rest → horizon p < entry e.vector 1
-  pub got : p'.got ≡ p.got
+  pub received : p'.received ≡ p.received
 
-pub later_same : (p p' : Partition) → horizon p ≤ horizon p' → p'.log ≡ p.log → p'.got ≡ p.got → Later p p'
-later_same p p' k e g = record { knows = k; log = record { rest = []; is = e ∙ sym (append-nil p.log) }; new = λ _ i. absurd i; got = g }
+pub later_same : (p p' : Partition) → horizon p ≤ horizon p' → p'.log ≡ p.log → p'.received ≡ p.received → Later p p'
+later_same p p' k e g = record { knows = k; log = record { rest = []; is = e ∙ sym (append-nil p.log) }; new = λ _ i. absurd i; received = g }
 
 pub later_further : {p q r : Partition} → Later p q → Later q r → Later p r
 later_further g h =
     record {
       knows = omega arith;
-      log = goes_further g.log h.log;
+      log = prefix_trans g.log h.log;
       new = in_append _ g.log.rest h.log.rest g.new (λ e i. omega (arith, h.new e i));
-      got = h.got ∙ g.got;
+      received = h.received ∙ g.received;
     }
 
 -- GET
@@ -107,7 +107,7 @@ get_keeps p g small h =
       below_clock = λ q i. omega (arith, h.below_clock q i);
       positive = h.positive;
       small = omega (arith, h.small);
-      got = h.got;
+      received = h.received;
     }
 
 pub get_later : (p : Partition) (g : Get) → PartitionOk p → Later p (get me p g)
@@ -140,7 +140,7 @@ prepared_keeps p tid snapshot writes small new h = record {
   below_clock = in_push (λ q. q.ts ≤ timestamp_for me p snapshot) p.prepared _ (λ q i. omega (arith, h.below_clock q i, next_timestamp-above)) (omega arith);
   positive = in_push (λ q. 0 < q.ts) p.prepared _ h.positive (omega (arith, next_timestamp-above));
   small = small;
-  got = h.got;
+  received = h.received;
 }
 
 pub prepared_later : (p : Partition) (tid : Tid) (snapshot : List ℕ) (writes : List Write) → PartitionOk p → Later p (prepared me p tid snapshot writes)
@@ -205,7 +205,7 @@ committed_keeps p v i q small got h = record {
   below_clock = λ r j. omega (arith, h.below_clock r (in_removed p.prepared i r j));
   positive = λ r j. h.positive r (in_removed p.prepared i r j);
   small = omega (arith, h.small);
-  got = h.got;
+  received = h.received;
 }
 
 pub committed_later : (p : Partition) (v : List ℕ) (i : ℕ) (q : PreparedTx) → In q p.prepared → q.ts ≤ entry v 1 → PartitionOk p
@@ -216,9 +216,9 @@ committed_later p v i q here le h =
       knows =
           own_known-above _ _ _ (omega (arith, own_known-clock p.clock p.prepared h.below_clock))
           (λ r j. let k = in_removed p.prepared i r j in own_known-below _ _ r k (h.positive r k));
-      log = goes_by p.log _;
+      log = prefix_append p.log _;
       new = in_push (λ (e : LogTx). horizon p < entry e.vector 1) [] _ (λ e j. absurd j) (omega arith);
-      got = refl;
+      received = refl;
     }
 
 -- by cases
@@ -261,4 +261,4 @@ read_later p p' sn item s l kn =
     ap (after_log item sn s) l.log.is
     ∙ after_log-append item sn p.log l.log.rest s
     ∙ after_log-none item sn l.log.rest (after_log item sn s p.log)
-    (λ e i h. let new = l.new e i in omega (arith, at_most-true e.vector sn h 1, at_most-true sn (known me p) kn 1, entry-with_same p.got 1 (horizon p)))
+    (λ e i h. let new = l.new e i in omega (arith, at_most-true e.vector sn h 1, at_most-true sn (known me p) kn 1, entry-with_same p.received 1 (horizon p)))

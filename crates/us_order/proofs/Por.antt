@@ -6,19 +6,19 @@ use Rattle.us_snapshots.specs.Laws.{OfSnapshotHistories}
 use Rattle.us_snapshots.proofs.Laws.{all_well_formed, all_closed, all_valued, all_ordered, all_counted_directly, all_direct, all_ascend}
 use Rattle.us_model.specs.declared.settings.Settings.{Settings}
 use Rattle.us_order.specs.Premise.{HasOnePartition}
-use Rattle.us_model.specs.Worlds.{Happening, start, run}
+use Rattle.us_model.specs.Worlds.{WorldEvent, start, run}
 use Rattle.us_order.specs.Laws.{history_after, EveryRunIsPor, PastsAreDirect, ExecutionsAreDirect, ExecutionsAreWellFormed, HistoriesAscend}
 use Rattle.us_order.proofs.Numbers.{history_plain}
 use Rattle.us_order.proofs.Snapshots.{every_run_snapshots}
 
-holds_after : (Holds : History → Type 0) → OfSnapshotHistories Holds → (settings : Settings) → HasOnePartition settings → (hs : List Happening)
+holds_after : (Holds : History → Type 0) → OfSnapshotHistories Holds → (settings : Settings) → HasOnePartition settings → (hs : List WorldEvent)
     → Holds (history_after settings hs)
 holds_after Holds law settings one hs =
     let snap = every_run_snapshots settings one hs in
     law settings.catalog (conflict settings.conflicts) (history_after settings hs) snap.0 snap.1
 
 -- no session goes on from another one
-unlinked : (settings : Settings) → HasOnePartition settings → (hs : List Happening) → (history_after settings hs).links ≡ []
+unlinked : (settings : Settings) → HasOnePartition settings → (hs : List WorldEvent) → (history_after settings hs).links ≡ []
 unlinked settings one hs = (history_plain (run hs (start settings)).notes).unlinked
 
 pub every_run : EveryRunIsPor

@@ -2,9 +2,9 @@
 use Rattle.std.proofs.Common.{◌≡◌, ◌⊎◌, inl, inr, ⊎_elim, ℕ, zero, suc, ◌+◌, ◌<◌, ◌≤◌, ◌^◌, List, [], ◌∷◌, ◌++◌, length, Bool, true, false, refl, sym}
 use Rattle.std.proofs.Common.{ap, ◌∙◌, subst, arith, cond, true≢false}
 use Rattle.std.specs.Prelude.{Some, None, Option, nat_lt}
-use Rattle.us_kind.specs.Words.{In, tid_eq}
+use Rattle.us_kind.specs.Comparison.{In, tid_eq}
 use Rattle.us_kind.specs.declared.identity.Tid.{Tid}
-use Rattle.us_kind.proofs.ListLemmas.{in_front, in_push, in_one, in_later, in_grown, in_split, in_old, in_last, GoesOn, goes_nowhere, goes_by}
+use Rattle.us_kind.proofs.ListLemmas.{in_front, in_push, in_one, in_later, in_grown, in_split, in_old, in_last, IsPrefix, prefix_refl, prefix_append}
 use Rattle.us_kind.proofs.Members.{later_push}
 use Rattle.us_kind.proofs.TestLemmas.{tid_eq-true, tid_eq-same}
 use Rattle.us_base.specs.Vector.{entry, at_most, join, with_entry}
@@ -27,11 +27,11 @@ use Rattle.us_peer_wire.specs.declared.message.Form.TheVariants as form
 use Rattle.us_model.specs.declared.event.Note.TheVariants as note
 use Rattle.us_history.specs.declared.LogTx.{LogTx}
 use Rattle.us_model.specs.declared.coordinator.Transaction.{Transaction}
-use Rattle.us_model.specs.declared.coordinator.Ask.{Ask}
-use Rattle.us_model.specs.declared.coordinator.Waiting.{Waiting}
-use Rattle.us_model.specs.declared.coordinator.Waiting.TheVariants as waits
+use Rattle.us_model.specs.declared.coordinator.QueuedRequest.{QueuedRequest}
+use Rattle.us_model.specs.declared.coordinator.Await.{Await}
+use Rattle.us_model.specs.declared.coordinator.Await.TheVariants as waits
 use Rattle.us_model.specs.declared.coordinator.Session.{Session}
-use Rattle.us_model.specs.declared.coordinator.Desk.{Desk}
+use Rattle.us_model.specs.declared.coordinator.Context.{Context}
 use Rattle.us_model.specs.State.{Partition, Spaces}
 use Rattle.us_history.specs.Histories.{Begun, Performed, Committed, History, begun_of, ops_of, has_own_vector, committed_in}
 use Rattle.us_history.specs.States.{kind_for, own_effects, state_at}
@@ -40,7 +40,7 @@ use Rattle.us_snapshots.proofs.Acts.{writes_in-append, HasWrites, acts_from-push
 use Rattle.us_snapshots.proofs.Stands.{StandsEarlier, earlier_front, earlier_push}
 use Rattle.us_snapshots.specs.Snapshots.{writes_of}
 use Rattle.us_model.specs.Partitions.{known, is_too_long, form_for}
-use Rattle.us_model.specs.Sessions.{Acted, with_packets, with_note, tell, to_partition, home, next_tid, begun_transaction, begun, asked_for, ended}
+use Rattle.us_model.specs.Sessions.{SessionStep, with_packets, with_note, tell, to_partition, home, next_tid, begun_transaction, begun, asked_for, ended}
 use Rattle.us_model.specs.Sessions.{sent_out, write_of, recorded, decided, session_name}
 use Rattle.us_model.specs.Executions.{decided_as, decided_one}
 use Rattle.us_order.proofs.Ledgers.{me, name, Ledger, with_messages, with_told, Stands, stands_packets, stands_note, stands_tell}
@@ -57,27 +57,27 @@ use Rattle.us_order.proofs.Facts.{grows_nowhere, grows_further}
 pub record Facts (spaces : Spaces) (p : Partition) (l : Ledger) (s : Session) : Type 0 where
   pub part : PartitionFacts spaces p l
   pub all : SharedFacts l
-  pub mine : SessionFacts spaces p.log l s.number s.past s.running s.waits s.asks s.asked
+  pub mine : SessionFacts spaces p.log l s.number s.past s.running s.waits s.requests s.asked
 
 -- a frame that comes after the one that was performed last, and before those that wait
 abbrev pub IsNext : (spaces : Spaces) (p : Partition) (l : Ledger) (s : Session) → Facts spaces p l s → ℕ → Type 0
-IsNext spaces p l s h at = (h.mine.last < at) × Ascends at s.asks s.asked
+IsNext spaces p l s h at = (h.mine.last < at) × Ascends at s.requests s.asked
 
 -- what a rule keeps
-pub record Kept (spaces : Spaces) (b : Ledger) (p : Partition) (l : Ledger) (n : ℕ) (a : Acted) : Type 0 where
+pub record Preserves (spaces : Spaces) (b : Ledger) (p : Partition) (l : Ledger) (n : ℕ) (a : SessionStep) : Type 0 where
   pub ledger : Ledger
-  pub stands : Stands b p ledger a.desk
+  pub stands : Stands b p ledger a.context
   pub grow : Grows n l ledger
   pub facts : Facts spaces p ledger a.session
   pub number : a.session.number ≡ n
 
-pub kept_further : (spaces : Spaces) (b : Ledger) (p : Partition) (l : Ledger) (n : ℕ) (a c : Acted) (k : Kept spaces b p l n a)
-    → Kept spaces b p k.ledger n c → Kept spaces b p l n c
-kept_further spaces b p l n a c k h = record { ledger = h.ledger; stands = h.stands; grow = grows_further k.grow h.grow; facts = h.facts; number = h.number }
+pub preserves_trans : (spaces : Spaces) (b : Ledger) (p : Partition) (l : Ledger) (n : ℕ) (a c : SessionStep) (k : Preserves spaces b p l n a)
+    → Preserves spaces b p k.ledger n c → Preserves spaces b p l n c
+preserves_trans spaces b p l n a c k h = record { ledger = h.ledger; stands = h.stands; grow = grows_further k.grow h.grow; facts = h.facts; number = h.number }
 
 -- TRUTH LASTS
-pub is_true-later : (spaces : Spaces) (p : Partition) (l l' : Ledger) (m : Message) → GoesOn l.messages l'.messages
-    → GoesOn l.history.begun l'.history.begun → GoesOn l.history.committed l'.history.committed → IsTrue spaces p l m → IsTrue spaces p l' m
+pub is_true-later : (spaces : Spaces) (p : Partition) (l l' : Ledger) (m : Message) → IsPrefix l.messages l'.messages
+    → IsPrefix l.history.begun l'.history.begun → IsPrefix l.history.committed l'.history.committed → IsTrue spaces p l m → IsTrue spaces p l' m
 is_true-later spaces p l l' (message.Get tid place at snapshot item op own) g b d h =
     record { by = h.by; here = in_later _ b h.here; tid_is = h.tid_is; snapshot_is = h.snapshot_is; fits = h.fits }
 is_true-later spaces p l l' (message.Version v) g b d h =
@@ -103,14 +103,14 @@ committed_in-append s (c ∷ cs) ds = on (session_eq c.begun.session s) (committ
     on true h = omega arith
     on false h = h
 
-numbered-later : (cs ds : List Committed) (c : Committed) → GoesOn cs ds → Numbered cs c → Numbered ds c
+numbered-later : (cs ds : List Committed) (c : Committed) → IsPrefix cs ds → Numbered cs c → Numbered ds c
 numbered-later cs ds c g h =
     let e = committed_in-append c.begun.session cs g.rest in
     let w = h.within in
     record { from_one = h.from_one; within = subst (λ xs. c.number ≤ committed_in c.begun.session xs) (sym g.is) (omega arith) }
 
-decided-later : (spaces : Spaces) (p : Partition) (l l' : Ledger) (c : Committed) → GoesOn l.messages l'.messages
-    → GoesOn l.history.begun l'.history.begun → GoesOn l.history.committed l'.history.committed → c.ops ≡ ops_of c.begun.tid l'.history.performed
+decided-later : (spaces : Spaces) (p : Partition) (l l' : Ledger) (c : Committed) → IsPrefix l.messages l'.messages
+    → IsPrefix l.history.begun l'.history.begun → IsPrefix l.history.committed l'.history.committed → c.ops ≡ ops_of c.begun.tid l'.history.performed
     → DecidedFacts spaces p l c → DecidedFacts spaces p l' c
 decided-later spaces p l l' c g b d ops h = record {
   begun = in_later _ b h.begun;
@@ -160,34 +160,34 @@ part_grows spaces p n l l' g h new_messages ops new_decided answers =
     }
 
 -- nothing new is shared
-pub kept_same : (spaces : Spaces) (b : Ledger) (p : Partition) (l : Ledger) (s s' : Session) (d : Desk) → Stands b p l d → Facts spaces p l s
-    → SessionFacts spaces p.log l s'.number s'.past s'.running s'.waits s'.asks s'.asked → s'.number ≡ s.number
-    → Kept spaces b p l s.number (record { desk = d; session = s' })
-kept_same spaces b p l s s' d st h mine n =
+pub preserves_same : (spaces : Spaces) (b : Ledger) (p : Partition) (l : Ledger) (s s' : Session) (d : Context) → Stands b p l d → Facts spaces p l s
+    → SessionFacts spaces p.log l s'.number s'.past s'.running s'.waits s'.requests s'.asked → s'.number ≡ s.number
+    → Preserves spaces b p l s.number (record { context = d; session = s' })
+preserves_same spaces b p l s s' d st h mine n =
     record { ledger = l; stands = st; grow = grows_nowhere s.number l; facts = record { part = h.part; all = h.all; mine = mine }; number = n }
 
-abbrev mine_of : (spaces : Spaces) (log : List LogTx) (l : Ledger) (n last : ℕ) (w : Waiting) (tx : Transaction)
+abbrev mine_of : (spaces : Spaces) (log : List LogTx) (l : Ledger) (n last : ℕ) (w : Await) (tx : Transaction)
     → RunningFacts spaces log l n last w tx → OfSession l.history.begun n tx.tid
 mine_of spaces log l n last w tx run = record { by = begun_as n tx; here = run.begun; tid_is = refl; session_is = refl }
 
 -- one more message, of session n
 abbrev grows_message : (l : Ledger) (n : ℕ) (m : Message) → FromSession (with_messages l (m ∷ [])) n m → Grows n l (with_messages l (m ∷ []))
 grows_message l n m from = record {
-  messages = goes_by l.messages (m ∷ []);
+  messages = prefix_append l.messages (m ∷ []);
   sent = in_one (FromSession (with_messages l (m ∷ [])) n) m from;
-  begun = goes_nowhere _;
+  begun = prefix_refl _;
   begins = λ b i. absurd i;
-  performed = goes_nowhere _;
+  performed = prefix_refl _;
   performs = λ q i. absurd i;
-  committed = goes_nowhere _;
+  committed = prefix_refl _;
   decides = λ c i. absurd i;
 }
 
-idle_prepared : (w : Waiting) → w ≡ waits.Nothing → WaitsForPrepared w → ⊥
+idle_prepared : (w : Await) → w ≡ waits.Nothing → WaitsForPrepared w → ⊥
 idle_prepared w e h = subst WaitsForPrepared e h
 
 -- PERFORM
-new_get : (spaces : Spaces) (log : List LogTx) (l : Ledger) (n last : ℕ) (w : Waiting) (at : ℕ) (tx : Transaction) (item : Item) (op : Op)
+new_get : (spaces : Spaces) (log : List LogTx) (l : Ledger) (n last : ℕ) (w : Await) (at : ℕ) (tx : Transaction) (item : Item) (op : Op)
     (own : List (ℕ × Effect)) → RunningFacts spaces log l n last w tx → last < at → (m : Message) → In m l.messages
     → SameKey m (message.Get tx.tid (length tx.ops + 1) at tx.snapshot item op own) → ⊥
 new_get spaces log l n last w at tx item op own run less (message.Get t k a sn i o own') h key =
@@ -196,9 +196,9 @@ new_get spaces log l n last w at tx item op own run less (message.Get t k a sn i
     omega arith
 new_get spaces log l n last w at tx item op own run less _ h key = absurd key
 
-pub asked_for_keeps : (spaces : Spaces) (b : Ledger) (p : Partition) (l : Ledger) (d : Desk) (s : Session) (at : ℕ) (tx : Transaction) (item : Item)
+pub asked_for_keeps : (spaces : Spaces) (b : Ledger) (p : Partition) (l : Ledger) (d : Context) (s : Session) (at : ℕ) (tx : Transaction) (item : Item)
     (op : Op) → Fits spaces item op → Stands b p l d → (h : Facts spaces p l s) → s.running ≡ Some tx → s.waits ≡ waits.Nothing
-    → IsNext spaces p l s h at → Kept spaces b p l s.number (asked_for d s at tx item op)
+    → IsNext spaces p l s h at → Preserves spaces b p l s.number (asked_for d s at tx item op)
 asked_for_keeps spaces b p l d s at tx item op fits st h running idle next =
     let run = h.mine.runs tx running in
     let m = message.Get tx.tid (length tx.ops + 1) at tx.snapshot item op (own_effects item tx.writes) in
@@ -243,7 +243,7 @@ asked_for_keeps spaces b p l d s at tx item op fits st h running idle next =
     }
 
 -- COMMIT of a transaction with writes: PREPARE goes out
-new_prepare : (spaces : Spaces) (log : List LogTx) (l : Ledger) (n last : ℕ) (w : Waiting) (tx : Transaction) → RunningFacts spaces log l n last w tx
+new_prepare : (spaces : Spaces) (log : List LogTx) (l : Ledger) (n last : ℕ) (w : Await) (tx : Transaction) → RunningFacts spaces log l n last w tx
     → w ≡ waits.Nothing → (m : Message) → In m l.messages → SameKey m (message.Prepare tx.tid tx.snapshot tx.writes) → ⊥
 new_prepare spaces log l n last w tx run idle (message.Prepare t sn ws) h k =
     idle_prepared w idle (run.prepares sn ws (let P : Tid → Type 0 = λ t. In (message.Prepare t sn ws) l.messages in subst P k h))
@@ -253,8 +253,8 @@ new_prepare spaces log l n last w tx run idle (message.Prepared t m) h k = k
 new_prepare spaces log l n last w tx run idle (message.Commit t v) h k = k
 new_prepare spaces log l n last w tx run idle _ h k = k
 
-sent_to_one_keeps : (spaces : Spaces) (b : Ledger) (p : Partition) (l : Ledger) (d : Desk) (s : Session) (at : ℕ) (tx : Transaction) → Stands b p l d
-    → Facts spaces p l s → s.running ≡ Some tx → s.waits ≡ waits.Nothing → HasWrites tx.writes → Kept spaces b p l s.number (sent_to_one d s at tx)
+sent_to_one_keeps : (spaces : Spaces) (b : Ledger) (p : Partition) (l : Ledger) (d : Context) (s : Session) (at : ℕ) (tx : Transaction) → Stands b p l d
+    → Facts spaces p l s → s.running ≡ Some tx → s.waits ≡ waits.Nothing → HasWrites tx.writes → Preserves spaces b p l s.number (sent_to_one d s at tx)
 sent_to_one_keeps spaces b p l d s at tx st h running idle has =
     let run = h.mine.runs tx running in
     let m = message.Prepare tx.tid tx.snapshot tx.writes in
@@ -291,10 +291,10 @@ sent_to_one_keeps spaces b p l d s at tx st h running idle has =
       number = refl;
     }
 
-pub sent_out_keeps : (spaces : Spaces) (b : Ledger) (p : Partition) (l : Ledger) (d : Desk) (s : Session) (at : ℕ) (tx : Transaction) → Stands b p l d
-    → Facts spaces p l s → s.running ≡ Some tx → s.waits ≡ waits.Nothing → HasWrites tx.writes → Kept spaces b p l s.number (sent_out d s at tx)
+pub sent_out_keeps : (spaces : Spaces) (b : Ledger) (p : Partition) (l : Ledger) (d : Context) (s : Session) (at : ℕ) (tx : Transaction) → Stands b p l d
+    → Facts spaces p l s → s.running ≡ Some tx → s.waits ≡ waits.Nothing → HasWrites tx.writes → Preserves spaces b p l s.number (sent_out d s at tx)
 sent_out_keeps spaces b p l d s at tx st h running idle has =
-    subst (Kept spaces b p l s.number) (sym (sent_out_one d s at tx st.one has)) (sent_to_one_keeps spaces b p l d s at tx st h running idle has)
+    subst (Preserves spaces b p l s.number) (sym (sent_out_one d s at tx st.one has)) (sent_to_one_keeps spaces b p l d s at tx st h running idle has)
 
 -- BEGIN
 abbrev pub tid_after : ℕ → Tid
@@ -341,7 +341,7 @@ begun_history l n snapshot h small covered = record {
 
 -- the base is at most the clock
 base_small : (spaces : Spaces) (p : Partition) (l : Ledger) → PartitionFacts spaces p l → entry (known me p) 1 ≤ 2 ^ 62
-base_small spaces p l h = let a = own_known-clock p.clock p.prepared h.ok.below_clock in omega (arith, entry-with_same p.got 1 (horizon p), h.ok.small)
+base_small spaces p l h = let a = own_known-clock p.clock p.prepared h.ok.below_clock in omega (arith, entry-with_same p.received 1 (horizon p), h.ok.small)
 
 new_answers : (spaces : Spaces) (p : Partition) (l : Ledger) → PartitionFacts spaces p l → HistoryFacts l.seq l.history → (b : Begun)
     → b.tid ≡ tid_after l.seq → AllTrue spaces p b.tid b.snapshot [] (ops_of b.tid l.history.performed)
@@ -349,11 +349,11 @@ new_answers spaces p l part h b e =
     subst (AllTrue spaces p b.tid b.snapshot []) (sym (ops_of-none b.tid l.history.performed
     (λ q i f. let o = h.performed q i in next-new l.seq l.history h o.by o.here (o.tid_is ∙ f ∙ e)))) tt
 
-begun_keeps_at : (spaces : Spaces) (b : Ledger) (p : Partition) (l : Ledger) (d : Desk) (s : Session) (at : ℕ) → d.seq ≡ l.seq
+begun_keeps_at : (spaces : Spaces) (b : Ledger) (p : Partition) (l : Ledger) (d : Context) (s : Session) (at : ℕ) → d.seq ≡ l.seq
     → Stands b p l (record d { me = me; base = known me p; seq = l.seq }) → Facts spaces p l s → s.waits ≡ waits.Nothing
-    → Kept spaces b p l s.number (begun (record d { me = me; base = known me p; seq = l.seq }) s at)
+    → Preserves spaces b p l s.number (begun (record d { me = me; base = known me p; seq = l.seq }) s at)
 begun_keeps_at spaces b p l d s at same st h idle =
-    let d0 : Desk = record d { me = me; base = known me p; seq = l.seq } in
+    let d0 : Context = record d { me = me; base = known me p; seq = l.seq } in
     let snapshot = join s.past (known me p) in
     let tx : Transaction = begun_transaction d0 s in
     let new = begins_with l s.number snapshot in
@@ -364,13 +364,13 @@ begun_keeps_at spaces b p l d s at same st h idle =
     (stands_tell b p l d0 s (reply.Started at (next_tid d0)) st) in
     let told_history = begun_history l s.number snapshot h.all.told small (λ c i e. at_most-join_left c.vector s.past (known me p) (h.mine.covered c i e)) in
     let g : Grows s.number l l' = record {
-      messages = goes_nowhere _;
+      messages = prefix_refl _;
       sent = λ m i. absurd i;
-      begun = goes_by l.history.begun (new ∷ []);
+      begun = prefix_append l.history.begun (new ∷ []);
       begins = in_one (λ (x : Begun). x.session ≡ name s.number) new refl;
-      performed = goes_nowhere _;
+      performed = prefix_refl _;
       performs = λ q i. absurd i;
-      committed = goes_nowhere _;
+      committed = prefix_refl _;
       decides = λ c i. absurd i;
     } in
     record {
@@ -406,12 +406,12 @@ begun_keeps_at spaces b p l d s at same st h idle =
       number = refl;
     }
 
-pub begun_keeps : (spaces : Spaces) (b : Ledger) (p : Partition) (l : Ledger) (d : Desk) (s : Session) (at : ℕ) → Stands b p l d → Facts spaces p l s
-    → s.waits ≡ waits.Nothing → Kept spaces b p l s.number (begun d s at)
+pub begun_keeps : (spaces : Spaces) (b : Ledger) (p : Partition) (l : Ledger) (d : Context) (s : Session) (at : ℕ) → Stands b p l d → Facts spaces p l s
+    → s.waits ≡ waits.Nothing → Preserves spaces b p l s.number (begun d s at)
 begun_keeps spaces b p l d s at st h idle =
-    let d0 : Desk = record d { me = me; base = known me p; seq = l.seq } in
+    let d0 : Context = record d { me = me; base = known me p; seq = l.seq } in
     let e : d0 ≡ d = λ i. record d { me = sym st.actor i; base = sym st.base i; seq = sym st.seq i } in
-    subst (λ x. Kept spaces b p l s.number (begun x s at)) e
+    subst (λ x. Preserves spaces b p l s.number (begun x s at)) e
     (begun_keeps_at spaces b p l d s at st.seq (record {
       actor = refl;
       one = st.one;
@@ -424,7 +424,7 @@ begun_keeps spaces b p l d s at st h idle =
 -- A DECISION
 
 -- the transaction that runs is not decided yet
-undecided : (spaces : Spaces) (p : Partition) (l : Ledger) (n last : ℕ) (w : Waiting) (tx : Transaction) → PartitionFacts spaces p l → SharedFacts l
+undecided : (spaces : Spaces) (p : Partition) (l : Ledger) (n last : ℕ) (w : Await) (tx : Transaction) → PartitionFacts spaces p l → SharedFacts l
     → RunningFacts spaces p.log l n last w tx → (c : Committed) → In c l.history.committed → c.begun.tid ≡ tx.tid → ⊥
 undecided spaces p l n last w tx part all run c i e =
     let same = all.told.begun_once c.begun (begun_as n tx) (part.decided c i).begun run.begun e in
@@ -463,7 +463,7 @@ with_decided h c = record h { committed = h.committed ++ c ∷ [] }
 abbrev decision : Ledger → ℕ → Transaction → List ℕ → Committed
 decision l n tx vector = decided_as l.history false vector (begun_as n tx)
 
-decided_history : (spaces : Spaces) (p : Partition) (l : Ledger) (n last : ℕ) (w : Waiting) (tx : Transaction) (vector : List ℕ)
+decided_history : (spaces : Spaces) (p : Partition) (l : Ledger) (n last : ℕ) (w : Await) (tx : Transaction) (vector : List ℕ)
     → PartitionFacts spaces p l → SharedFacts l → RunningFacts spaces p.log l n last w tx
     → HistoryFacts l.seq (with_decided l.history (decision l n tx vector))
 decided_history spaces p l n last w tx vector part all run = record {
@@ -521,10 +521,10 @@ decided_history spaces p l n last w tx vector part all run = record {
     stands c d e less (inr k) j = absurd (too_late c d e less k j)
 
 -- a session after its transaction's end
-ended_session : (spaces : Spaces) (log : List LogTx) (l : Ledger) (n : ℕ) (past : List ℕ) (running : Option Transaction) (w : Waiting)
-    (asks : List Ask) (asked : ℕ) (new : Committed) → entry new.vector 1 ≤ 2 ^ 62 → SessionFacts spaces log l n past running w asks asked
-    → SessionFacts spaces log (record l { history = with_decided l.history new }) n (join past new.vector) None waits.Nothing asks asked
-ended_session spaces log l n past running w asks asked new small h = record {
+ended_session : (spaces : Spaces) (log : List LogTx) (l : Ledger) (n : ℕ) (past : List ℕ) (running : Option Transaction) (w : Await)
+    (requests : List QueuedRequest) (asked : ℕ) (new : Committed) → entry new.vector 1 ≤ 2 ^ 62 → SessionFacts spaces log l n past running w requests asked
+    → SessionFacts spaces log (record l { history = with_decided l.history new }) n (join past new.vector) None waits.Nothing requests asked
+ended_session spaces log l n past running w requests asked new small h = record {
   covered =
       λ c i e. ⊎_elim (λ j. at_most-join_left c.vector past new.vector (h.covered c j e))
       (λ k. subst (λ (x : Committed). at_most x.vector (join past new.vector) ≡ true) k
@@ -536,12 +536,12 @@ ended_session spaces log l n past running w asks asked new small h = record {
 }
 
 -- what was told of it is what it wrote
-writes_told : (spaces : Spaces) (log : List LogTx) (l : Ledger) (n last : ℕ) (w : Waiting) (tx : Transaction) → RunningFacts spaces log l n last w tx
+writes_told : (spaces : Spaces) (log : List LogTx) (l : Ledger) (n last : ℕ) (w : Await) (tx : Transaction) → RunningFacts spaces log l n last w tx
     → tx.writes ≡ writes_in (acts_of spaces log tx.tid tx.snapshot (ops_of tx.tid l.history.performed))
 writes_told spaces log l n last w tx run = run.writes ∙ ap (λ ds. writes_in (acts_of spaces log tx.tid tx.snapshot ds)) run.ops
 
 -- the decision is told
-stands_decided : (spaces : Spaces) (b : Ledger) (p : Partition) (l : Ledger) (d : Desk) (n last : ℕ) (w : Waiting) (tx : Transaction)
+stands_decided : (spaces : Spaces) (b : Ledger) (p : Partition) (l : Ledger) (d : Context) (n last : ℕ) (w : Await) (tx : Transaction)
     (vector : List ℕ) → SharedFacts l → RunningFacts spaces p.log l n last w tx → Stands b p l d
     → Stands b p (record l { history = with_decided l.history (decision l n tx vector) }) (with_note d (note.Decided tx.tid vector))
 stands_decided spaces b p l d n last w tx vector all run st =
@@ -559,21 +559,21 @@ stands_decided spaces b p l d n last w tx vector all run st =
 abbrev grows_decided : (l : Ledger) (n : ℕ) (tx : Transaction) (vector : List ℕ)
     → Grows n l (record l { history = with_decided l.history (decision l n tx vector) })
 grows_decided l n tx vector = record {
-  messages = goes_nowhere _;
+  messages = prefix_refl _;
   sent = λ m i. absurd i;
-  begun = goes_nowhere _;
+  begun = prefix_refl _;
   begins = λ x i. absurd i;
-  performed = goes_nowhere _;
+  performed = prefix_refl _;
   performs = λ q i. absurd i;
-  committed = goes_by l.history.committed (decision l n tx vector ∷ []);
+  committed = prefix_append l.history.committed (decision l n tx vector ∷ []);
   decides = in_one (λ (c : Committed). c.begun.session ≡ name n) (decision l n tx vector) refl;
 }
 
 -- the end of a transaction, whose facts as a decided one are given
-ended_keeps : (spaces : Spaces) (b : Ledger) (p : Partition) (l : Ledger) (d : Desk) (s : Session) (at : ℕ) (tx : Transaction) (vector : List ℕ)
+ended_keeps : (spaces : Spaces) (b : Ledger) (p : Partition) (l : Ledger) (d : Context) (s : Session) (at : ℕ) (tx : Transaction) (vector : List ℕ)
     → Stands b p l d → Facts spaces p l s → s.running ≡ Some tx
     → DecidedFacts spaces p (record l { history = with_decided l.history (decision l s.number tx vector) }) (decision l s.number tx vector)
-    → Kept spaces b p l s.number (ended d s at tx vector)
+    → Preserves spaces b p l s.number (ended d s at tx vector)
 ended_keeps spaces b p l d s at tx vector st h running f =
     let run = h.mine.runs tx running in
     let new = decision l s.number tx vector in
@@ -590,7 +590,7 @@ ended_keeps spaces b p l d s at tx vector st h running f =
             part_grows spaces p s.number l l' g h.part (λ m i. absurd i) (λ c i. (h.part.decided c i).ops) (in_one (DecidedFacts spaces p l') new f)
             h.part.answers;
         all = record { told = decided_history spaces p l s.number h.mine.last s.waits tx vector h.part h.all run; once = h.all.once };
-        mine = ended_session spaces p.log l s.number s.past s.running s.waits s.asks s.asked new f.small h.mine;
+        mine = ended_session spaces p.log l s.number s.past s.running s.waits s.requests s.asked new f.small h.mine;
       };
       number = refl;
     }
@@ -601,8 +601,8 @@ new_numbered l n tx vector =
     record { from_one = omega arith; within = let e = committed_in-push (name n) l.history.committed (decision l n tx vector) refl in omega arith }
 
 -- COMMIT of a transaction without writes
-pub ends_keeps : (spaces : Spaces) (b : Ledger) (p : Partition) (l : Ledger) (d : Desk) (s : Session) (at : ℕ) (tx : Transaction) → Stands b p l d
-    → Facts spaces p l s → s.running ≡ Some tx → tx.writes ≡ [] → Kept spaces b p l s.number (ended d s at tx tx.snapshot)
+pub ends_keeps : (spaces : Spaces) (b : Ledger) (p : Partition) (l : Ledger) (d : Context) (s : Session) (at : ℕ) (tx : Transaction) → Stands b p l d
+    → Facts spaces p l s → s.running ≡ Some tx → tx.writes ≡ [] → Preserves spaces b p l s.number (ended d s at tx tx.snapshot)
 ends_keeps spaces b p l d s at tx st h running none =
     let run = h.mine.runs tx running in
     let ds = ops_of tx.tid l.history.performed in
@@ -649,10 +649,10 @@ above_snapshot spaces p l tx ts part all asked still =
     let tis = still.ts_is in
     subst (λ v. entry v 1 < ts) k (omega arith)
 
-decided_at_one_keeps : (spaces : Spaces) (b : Ledger) (p : Partition) (l : Ledger) (d : Desk) (s : Session) (at : ℕ) (tx : Transaction) (ts : ℕ)
+decided_at_one_keeps : (spaces : Spaces) (b : Ledger) (p : Partition) (l : Ledger) (d : Context) (s : Session) (at : ℕ) (tx : Transaction) (ts : ℕ)
     → Stands b p l d → Facts spaces p l s → s.running ≡ Some tx → HasWrites tx.writes → In (message.Prepare tx.tid tx.snapshot tx.writes) l.messages
     → In (message.Prepared tx.tid ts) l.messages
-    → Kept spaces b p l s.number (ended (with_packets d (to_partition d 1 (message.Commit tx.tid (with_entry tx.snapshot 1 ts)) ∷ [])) s at tx
+    → Preserves spaces b p l s.number (ended (with_packets d (to_partition d 1 (message.Commit tx.tid (with_entry tx.snapshot 1 ts)) ∷ [])) s at tx
     (with_entry tx.snapshot 1 ts))
 decided_at_one_keeps spaces b p l d s at tx ts st h running has asked told =
     let run = h.mine.runs tx running in
@@ -677,13 +677,13 @@ decided_at_one_keeps spaces b p l d s at tx ts st h running has asked told =
     let asked' : In (message.Prepare tx.tid tx.snapshot (writes_of spaces p.log new)) l.messages =
     subst (λ ws. In (message.Prepare tx.tid tx.snapshot ws) l.messages) told_is asked in
     let g : Grows s.number l l' = record {
-      messages = goes_by l.messages (m ∷ []);
+      messages = prefix_append l.messages (m ∷ []);
       sent = in_one (FromSession l' s.number) m tt;
-      begun = goes_nowhere _;
+      begun = prefix_refl _;
       begins = λ x i. absurd i;
-      performed = goes_nowhere _;
+      performed = prefix_refl _;
       performs = λ q i. absurd i;
-      committed = goes_by l.history.committed (new ∷ []);
+      committed = prefix_append l.history.committed (new ∷ []);
       decides = in_one (λ (c : Committed). c.begun.session ≡ name s.number) new refl;
     } in
     let f : DecidedFacts spaces p l' new = record {
@@ -716,13 +716,13 @@ decided_at_one_keeps spaces b p l d s at tx ts st h running has asked told =
               once = once_push l.messages m h.all.once (λ x i k. no_key x tx.tid vector k);
             };
         mine =
-            let e = ended_session spaces p.log l s.number s.past s.running s.waits s.asks s.asked new f.small h.mine
+            let e = ended_session spaces p.log l s.number s.past s.running s.waits s.requests s.asked new f.small h.mine
             in record { covered = e.covered; small = e.small; last = e.last; queue = e.queue; runs = λ t q. absurd (cc) };
       };
       number = refl;
     }
   where
-    running_message : (log : List LogTx) (l : Ledger) (n last : ℕ) (w : Waiting) (tx : Transaction) (m : Message) → RunningFacts spaces log l n last w tx
+    running_message : (log : List LogTx) (l : Ledger) (n last : ℕ) (w : Await) (tx : Transaction) (m : Message) → RunningFacts spaces log l n last w tx
         → ((t : Tid) (n a : ℕ) (sn : List ℕ) (i : Item) (o : Op) (own : List (ℕ × Effect)) → m ≡ message.Get t n a sn i o own → ⊥)
         → ((t : Tid) (sn : List ℕ) (ws : List Write) → m ≡ message.Prepare t sn ws → ⊥)
         → RunningFacts spaces log (with_messages l (m ∷ [])) n last w tx
@@ -734,14 +734,14 @@ decided_at_one_keeps spaces b p l d s at tx ts st h running has asked told =
       latest = run.latest;
       gets = λ place at sn i o own j. run.gets place at sn i o own (in_old _ l.messages m (no_get _ _ _ _ _ _ _) j);
       prepares = λ sn ws j. run.prepares sn ws (in_old _ l.messages m (no_prepare _ _ _) j);
-      waiting = waits-later l (with_messages l (m ∷ [])) tx w (goes_by l.messages (m ∷ [])) run.waiting;
+      waiting = waits-later l (with_messages l (m ∷ [])) tx w (prefix_append l.messages (m ∷ [])) run.waiting;
     }
 
-pub decided_keeps : (spaces : Spaces) (b : Ledger) (p : Partition) (l : Ledger) (d : Desk) (s : Session) (at : ℕ) (tx : Transaction) (ts : ℕ)
+pub decided_keeps : (spaces : Spaces) (b : Ledger) (p : Partition) (l : Ledger) (d : Context) (s : Session) (at : ℕ) (tx : Transaction) (ts : ℕ)
     → Stands b p l d → Facts spaces p l s → s.running ≡ Some tx → HasWrites tx.writes → In (message.Prepare tx.tid tx.snapshot tx.writes) l.messages
-    → In (message.Prepared tx.tid ts) l.messages → Kept spaces b p l s.number (decided d s at tx (with_entry tx.snapshot 1 ts))
+    → In (message.Prepared tx.tid ts) l.messages → Preserves spaces b p l s.number (decided d s at tx (with_entry tx.snapshot 1 ts))
 decided_keeps spaces b p l d s at tx ts st h running has asked told =
-    subst (Kept spaces b p l s.number) (sym (decided_at_one d s at tx (with_entry tx.snapshot 1 ts) st.one has))
+    subst (Preserves spaces b p l s.number) (sym (decided_at_one d s at tx (with_entry tx.snapshot 1 ts) st.one has))
     (decided_at_one_keeps spaces b p l d s at tx ts st h running has asked told)
 
 -- VERSION: an operation is answered
@@ -754,10 +754,10 @@ told_form answer a effect e h = on (nat_lt 65000 (answer_length a)) (is_too_long
     on false true k = absurd (cc)
     on false false k = (cc, cc)
 
-pub recorded_keeps : (spaces : Spaces) (b : Ledger) (p : Partition) (l : Ledger) (d : Desk) (s : Session) (at place : ℕ) (item : Item) (op : Op)
+pub recorded_keeps : (spaces : Spaces) (b : Ledger) (p : Partition) (l : Ledger) (d : Context) (s : Session) (at place : ℕ) (item : Item) (op : Op)
     (tx : Transaction) (answer : Answer) (effect : Option Effect) (v : Version) → Stands b p l d → Facts spaces p l s → s.running ≡ Some tx
     → s.waits ≡ waits.Version at place item op → v.tid ≡ tx.tid → v.place ≡ place → v.at ≡ at → v.form ≡ form.Answered answer effect
-    → In (message.Version v) l.messages → Kept spaces b p l s.number (recorded d s at place item op tx answer effect)
+    → In (message.Version v) l.messages → Preserves spaces b p l s.number (recorded d s at place item op tx answer effect)
 recorded_keeps spaces b p l d s at place item op tx answer effect v st h running waiting tid_is place_is at_is form_is told =
     let run = h.mine.runs tx running in
     let w : Waits l tx (waits.Version at place item op) = subst (Waits l tx) waiting run.waiting in
@@ -770,8 +770,8 @@ recorded_keeps spaces b p l d s at place item op tx answer effect v st h running
     let e5 = told_form answer _ effect _ (sym form_is ∙ a.is) in
     let answer_is : answer ≡ answered a.op (state_at spaces p.log v.tid a.snapshot a.item a.own) = e5.0 in
     let effect_is : effect ≡ prepared_effect (record { tid = v.tid; place = v.place }) a.op (state_at spaces p.log v.tid a.snapshot a.item a.own) = e5.1 in
-    let asks = h.part.messages _ a.asked in
-    let fits : Fits spaces item op = (λ i. op_fits (kind_for spaces (sym e2 i).space) (sym e3 i)) ∙ asks.fits in
+    let requests = h.part.messages _ a.asked in
+    let fits : Fits spaces item op = (λ i. op_fits (kind_for spaces (sym e2 i).space) (sym e3 i)) ∙ requests.fits in
     let told_is = writes_told spaces p.log l s.number h.mine.last s.waits tx run in
     let done : Done = record { item = item; op = op; answer = answer } in
     let q : Performed = record { tid = tx.tid; done = done } in
@@ -791,13 +791,13 @@ recorded_keeps spaces b p l d s at place item op tx answer effect v st h running
     let l' = with_told l (note.Performed tx.tid done) in
     let tx' : Transaction = record tx { ops = tx.ops ++ done ∷ []; writes = tx.writes ++ write_of item place effect } in
     let g : Grows s.number l l' = record {
-      messages = goes_nowhere _;
+      messages = prefix_refl _;
       sent = λ m i. absurd i;
-      begun = goes_nowhere _;
+      begun = prefix_refl _;
       begins = λ x i. absurd i;
-      performed = goes_by l.history.performed (q ∷ []);
+      performed = prefix_append l.history.performed (q ∷ []);
       performs = in_one (λ (x : Performed). OfSession l'.history.begun s.number x.tid) q (mine_of spaces p.log l s.number h.mine.last s.waits tx run);
-      committed = goes_nowhere _;
+      committed = prefix_refl _;
       decides = λ c i. absurd i;
     } in
     record {
@@ -862,7 +862,7 @@ recorded_keeps spaces b p l d s at place item op tx answer effect v st h running
       stands = h.stands;
     }
 
-    answers_of : (p : Partition) (l : Ledger) (tx : Transaction) (n last : ℕ) (w : Waiting) (done : Done) → PartitionFacts spaces p l → SharedFacts l
+    answers_of : (p : Partition) (l : Ledger) (tx : Transaction) (n last : ℕ) (w : Await) (done : Done) → PartitionFacts spaces p l → SharedFacts l
         → RunningFacts spaces p.log l n last w tx → IsTrueAnswer spaces p tx.tid tx.snapshot (ops_of tx.tid l.history.performed) done → (x : Begun)
         → In x l.history.begun → (t : Bool) → tid_eq x.tid tx.tid ≡ t
         → AllTrue spaces p x.tid x.snapshot [] (ops_of x.tid (l.history.performed ++ record { tid = tx.tid; done = done } ∷ []))
@@ -875,6 +875,6 @@ recorded_keeps spaces b p l d s at place item op tx answer effect v st h running
     answers_of p l tx n last w done part all run new x i false e =
         let q : Performed = record { tid = tx.tid; done = done } in
         let still =
-        ops_of-still x.tid l.history.performed (l.history.performed ++ q ∷ []) (goes_by l.history.performed (q ∷ []))
+        ops_of-still x.tid l.history.performed (l.history.performed ++ q ∷ []) (prefix_append l.history.performed (q ∷ []))
         (in_one (λ (y : Performed). y.tid ≡ x.tid → ⊥) q (λ f. true≢false (sym (tid_eq-same x.tid) ∙ ap (tid_eq x.tid) (sym f) ∙ e))) in
         subst (AllTrue spaces p x.tid x.snapshot []) (sym still) (part.answers x i)

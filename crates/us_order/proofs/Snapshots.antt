@@ -2,7 +2,7 @@
 use Rattle.std.proofs.Common.{◌≡◌, ℕ, ◌<◌, ◌≤◌, ◌^◌, List, [], ◌∷◌, ◌++◌, Bool, true, false, refl, sym, ap, ◌∙◌, subst, arith, true≢false}
 use Rattle.std.specs.Prelude.{nat_lt}
 use Rattle.std.proofs.lemmas.Bool.Decides.{nat_tests}
-use Rattle.us_kind.specs.Words.{In}
+use Rattle.us_kind.specs.Comparison.{In}
 use Rattle.us_kind.specs.declared.identity.Tid.{Tid}
 use Rattle.us_base.specs.Vector.{at_most, with_entry, sum_of, zero as no_vector}
 use Rattle.us_base.proofs.Vectors.{at_most-true, sum-at_most}
@@ -34,7 +34,7 @@ sum_one x = omega arith
 
 known_small : (p : Partition) → PartitionOk p → sum_of (known me p) ≤ 2 ^ 62
 known_small p h =
-    let e : sum_of (known me p) ≡ horizon p = ap (λ g. sum_of (with_entry g 1 (horizon p))) h.got ∙ sum_one (horizon p) in
+    let e : sum_of (known me p) ≡ horizon p = ap (λ g. sum_of (with_entry g 1 (horizon p))) h.received ∙ sum_one (horizon p) in
     omega (arith, own_known-clock p.clock p.prepared h.below_clock, h.small)
 
 below_own : (p : Partition) (sn : List ℕ) → PartitionOk p → at_most sn (known me p) ≡ true → sum_of sn < own_sum

@@ -30,7 +30,7 @@ pub fn executions_are_direct()
 {}
 
 /// In each session the vectors of later transactions are at least those of earlier ones, and none that updates is in its own
-/// snapshot. So of a session's transactions that update those in a snapshot come first, and can be searched for by halves.
+/// snapshot. So of a session's transactions that update those in a snapshot come first, and can be found by binary search.
 pub fn histories_ascend()
     ensures { HistoriesAscend }
 {}

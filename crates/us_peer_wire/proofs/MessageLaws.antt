@@ -1,4 +1,4 @@
--- Messages are read as they are spelled.
+-- Messages are read as they are encoded.
 use Rattle.std.proofs.Common.{◌≡◌, ℕ, zero, suc, ◌≤◌, ◌<◌, true, List, [], ◌∷◌, refl, arith}
 use Rattle.std.specs.Prelude.{nat_lt}
 use Rattle.std.specs.Int.{w8}
@@ -7,19 +7,19 @@ use Rattle.us_kind.specs.declared.identity.Tid.{Tid}
 use Rattle.us_base.specs.declared.shape.Shape.{Shape}
 use Rattle.us_base.specs.Shape.{IsShape, sites_of}
 use Rattle.us_wire.specs.Fields.{number_at}
-use Rattle.us_wire.specs.Readings.{Reading, number_between_at, ReadsOn}
+use Rattle.us_wire.specs.Decoders.{Decoder, number_between_at, IsCodecWithin}
 use Rattle.us_wire.proofs.Combined.{reads_either, reads_passing}
-use Rattle.us_migrate.specs.Spellings.{tid_spelling, vector_spelling, IsOneOf, TidFits, VectorFits}
-use Rattle.us_migrate.specs.Readings.{tid_at, vector_at}
-use Rattle.us_migrate.proofs.Spelled.{reads_tids, reads_vectors}
+use Rattle.us_migrate.specs.Encodings.{tid_encoding, vector_encoding, IsOneOf, TidFits, VectorFits}
+use Rattle.us_migrate.specs.Decoders.{tid_at, vector_at}
+use Rattle.us_migrate.proofs.Encoded.{reads_tids, reads_vectors}
 use Rattle.us_value.specs.declared.item.Item.{Item}
 use Rattle.us_value.specs.declared.item.Write.{Write}
 use Rattle.us_value.specs.declared.operation.Effect.{Effect}
 use Rattle.us_value.specs.declared.operation.Op.{Op}
-use Rattle.us_fields.specs.Fields.{item_spelling, ItemFits, op_spelling, OpFits}
-use Rattle.us_fields.specs.FieldReadings.{item_at, op_at}
-use Rattle.us_fields.specs.Lists.{both_at, made_at, list_spelling, ListFits, list_at, longest_list, is_in_order}
-use Rattle.us_fields.specs.Effects.{writes_spelling, WritesFit, writes_at}
+use Rattle.us_fields.specs.Fields.{item_encoding, ItemFits, op_encoding, OpFits}
+use Rattle.us_fields.specs.FieldDecoders.{item_at, op_at}
+use Rattle.us_fields.specs.Lists.{both_at, made_at, list_encoding, ListFits, list_at, longest_list, is_in_order}
+use Rattle.us_fields.specs.Effects.{writes_encoding, WritesFit, writes_at}
 use Rattle.us_fields.proofs.FieldLaws.{reads_items, reads_ops}
 use Rattle.us_fields.proofs.ListLaws.{reads_bytes, reads_number, reads_both, reads_next, reads_case, reads_no_code, reads_lists}
 use Rattle.us_fields.proofs.EffectLaws.{reads_writes}
@@ -29,18 +29,18 @@ use Rattle.us_peer_wire.specs.declared.message.Message.{Message}
 use Rattle.us_peer_wire.specs.declared.message.Message.TheVariants as message
 use Rattle.us_peer_wire.specs.declared.message.OutcomeEnd.{OutcomeEnd}
 use Rattle.us_peer_wire.specs.declared.message.Page.{Page}
-use Rattle.us_fields.specs.Tuples.{own_spelling, OwnFits, own_at, committed_spelling, CommittedFits, committed_at, committed_before}
-use Rattle.us_peer_wire.specs.Parts.{form_spelling, FormFits, form_at, entry_spelling, EntryFits, entry_at, page_spelling, PageFits, page_at, end_spelling, EndFits, end_at}
+use Rattle.us_fields.specs.Tuples.{own_encoding, OwnFits, own_at, committed_encoding, CommittedFits, committed_at, committed_before}
+use Rattle.us_peer_wire.specs.Parts.{form_encoding, FormFits, form_at, entry_encoding, EntryFits, entry_at, page_encoding, PageFits, page_at, end_encoding, EndFits, end_at}
 use Rattle.us_peer_wire.specs.Messages.{message_tag, number, most_slots, message_fields, IsNumber, MessageFits, a_number, get_at, version_at, prepare_at, prepared_at, commit_at, replicate_at, known_local_at, outcome_at, deliver_at, promise_at, new_state_at, accept_at, accepted_at, learn_at, early_fields_at, late_fields_at, message_fields_at}
 use Rattle.us_peer_wire.proofs.PartLaws.{reads_sites, reads_own, reads_forms, reads_entries, reads_committed, reads_pages, reads_ends}
 
--- a message with this tag, that has a spelling
+-- a message with this tag, that has an encoding
 abbrev IsMessage : Shape → ℕ → Message → Type 0
 IsMessage shape n m = (message_tag m ≡ n) × MessageFits shape m
 
--- what each tag's reading is to the spelling of its messages
-abbrev ReadsTag : Shape → ℕ → Reading Message → Type 0
-ReadsTag shape n read = ReadsOn (IsMessage shape n) (message_fields shape) read
+-- what each tag's decoder is to the encoding of its messages
+abbrev ReadsTag : Shape → ℕ → Decoder Message → Type 0
+ReadsTag shape n read = IsCodecWithin (IsMessage shape n) (message_fields shape) read
 
 from_get : (shape : Shape) (m : Message) → message_tag m ≡ 1 → MessageFits shape m → (p : Tid × (ℕ × (ℕ × (List ℕ × (Item × (Op × (List (ℕ × Effect)))))))) × (message.Get p.0 p.1.0 p.1.1.0 p.1.1.1.0 p.1.1.1.1.0 p.1.1.1.1.1.0 p.1.1.1.1.1.1 ≡ m) × (TidFits shape p.0 × ((p.1.0 ≤ 255) × (IsNumber p.1.1.0 × (VectorFits shape p.1.1.1.0 × (ItemFits p.1.1.1.1.0 × (OpFits p.1.1.1.1.1.0 × ListFits 0 longest_list (OwnFits shape) p.1.1.1.1.1.1))))))
 from_get shape (message.Get tid place at snapshot item op own) e f = ((tid, (place, (at, (snapshot, (item, (op, own)))))), refl, f)
@@ -50,12 +50,12 @@ reads_get : (shape : Shape) → IsShape shape → (n : ℕ) → n ≡ 1 → Read
 unfolding get_at
 reads_get shape is n e =
     reads_case message_tag (MessageFits shape) (message_fields shape) n 1 _ _ (both_at (tid_at shape) (both_at (number_at w8) (both_at a_number (both_at (vector_at shape) (both_at item_at (both_at op_at (list_at 0 longest_list (own_at shape)))))))) (λ (p : Tid × (ℕ × (ℕ × (List ℕ × (Item × (Op × (List (ℕ × Effect)))))))). message.Get p.0 p.1.0 p.1.1.0 p.1.1.1.0 p.1.1.1.1.0 p.1.1.1.1.1.0 p.1.1.1.1.1.1) e
-    (reads_both (TidFits shape) tid_spelling (tid_at shape) _ _ (both_at (number_at w8) (both_at a_number (both_at (vector_at shape) (both_at item_at (both_at op_at (list_at 0 longest_list (own_at shape))))))) (reads_tids shape is)
+    (reads_both (TidFits shape) tid_encoding (tid_at shape) _ _ (both_at (number_at w8) (both_at a_number (both_at (vector_at shape) (both_at item_at (both_at op_at (list_at 0 longest_list (own_at shape))))))) (reads_tids shape is)
     (reads_both (λ n. n ≤ 255) (λ n. n ∷ []) (number_at w8) _ _ (both_at a_number (both_at (vector_at shape) (both_at item_at (both_at op_at (list_at 0 longest_list (own_at shape)))))) reads_bytes
     (reads_both IsNumber number a_number _ _ (both_at (vector_at shape) (both_at item_at (both_at op_at (list_at 0 longest_list (own_at shape))))) reads_number
-    (reads_both (VectorFits shape) (vector_spelling shape) (vector_at shape) _ _ (both_at item_at (both_at op_at (list_at 0 longest_list (own_at shape)))) (reads_vectors shape is)
-    (reads_both ItemFits item_spelling item_at _ _ (both_at op_at (list_at 0 longest_list (own_at shape))) reads_items
-    (reads_both OpFits op_spelling op_at (ListFits 0 longest_list (OwnFits shape)) (list_spelling own_spelling) (list_at 0 longest_list (own_at shape)) reads_ops (reads_lists (OwnFits shape) own_spelling (own_at shape) 0 longest_list (omega arith) (reads_own shape is))))))))
+    (reads_both (VectorFits shape) (vector_encoding shape) (vector_at shape) _ _ (both_at item_at (both_at op_at (list_at 0 longest_list (own_at shape)))) (reads_vectors shape is)
+    (reads_both ItemFits item_encoding item_at _ _ (both_at op_at (list_at 0 longest_list (own_at shape))) reads_items
+    (reads_both OpFits op_encoding op_at (ListFits 0 longest_list (OwnFits shape)) (list_encoding own_encoding) (list_at 0 longest_list (own_at shape)) reads_ops (reads_lists (OwnFits shape) own_encoding (own_at shape) 0 longest_list (omega arith) (reads_own shape is))))))))
     (λ a f. (refl, f)) (λ a f. refl) (from_get shape)
 
 from_version : (shape : Shape) (m : Message) → message_tag m ≡ 2 → MessageFits shape m → (p : Tid × (ℕ × (ℕ × Form))) × (message.Version (record { tid = p.0; place = p.1.0; at = p.1.1.0; form = p.1.1.1 }) ≡ m) × (TidFits shape p.0 × ((p.1.0 ≤ 255) × (IsNumber p.1.1.0 × FormFits shape p.1.1.1)))
@@ -66,9 +66,9 @@ reads_version : (shape : Shape) → IsShape shape → (n : ℕ) → n ≡ 2 → 
 unfolding version_at
 reads_version shape is n e =
     reads_case message_tag (MessageFits shape) (message_fields shape) n 2 _ _ (both_at (tid_at shape) (both_at (number_at w8) (both_at a_number (form_at shape)))) (λ (p : Tid × (ℕ × (ℕ × Form))). message.Version (record { tid = p.0; place = p.1.0; at = p.1.1.0; form = p.1.1.1 })) e
-    (reads_both (TidFits shape) tid_spelling (tid_at shape) _ _ (both_at (number_at w8) (both_at a_number (form_at shape))) (reads_tids shape is)
+    (reads_both (TidFits shape) tid_encoding (tid_at shape) _ _ (both_at (number_at w8) (both_at a_number (form_at shape))) (reads_tids shape is)
     (reads_both (λ n. n ≤ 255) (λ n. n ∷ []) (number_at w8) _ _ (both_at a_number (form_at shape)) reads_bytes
-    (reads_both IsNumber number a_number (FormFits shape) form_spelling (form_at shape) reads_number (reads_forms shape is))))
+    (reads_both IsNumber number a_number (FormFits shape) form_encoding (form_at shape) reads_number (reads_forms shape is))))
     (λ a f. (refl, f)) (λ a f. refl) (from_version shape)
 
 from_prepare : (shape : Shape) (m : Message) → message_tag m ≡ 3 → MessageFits shape m → (p : Tid × (List ℕ × List Write)) × (message.Prepare p.0 p.1.0 p.1.1 ≡ m) × (TidFits shape p.0 × (VectorFits shape p.1.0 × WritesFit shape p.1.1))
@@ -79,8 +79,8 @@ reads_prepare : (shape : Shape) → IsShape shape → (n : ℕ) → n ≡ 3 → 
 unfolding prepare_at
 reads_prepare shape is n e =
     reads_case message_tag (MessageFits shape) (message_fields shape) n 3 _ _ (both_at (tid_at shape) (both_at (vector_at shape) (writes_at shape))) (λ (p : Tid × (List ℕ × List Write)). message.Prepare p.0 p.1.0 p.1.1) e
-    (reads_both (TidFits shape) tid_spelling (tid_at shape) _ _ (both_at (vector_at shape) (writes_at shape)) (reads_tids shape is)
-    (reads_both (VectorFits shape) (vector_spelling shape) (vector_at shape) (WritesFit shape) writes_spelling (writes_at shape) (reads_vectors shape is) (reads_writes shape is)))
+    (reads_both (TidFits shape) tid_encoding (tid_at shape) _ _ (both_at (vector_at shape) (writes_at shape)) (reads_tids shape is)
+    (reads_both (VectorFits shape) (vector_encoding shape) (vector_at shape) (WritesFit shape) writes_encoding (writes_at shape) (reads_vectors shape is) (reads_writes shape is)))
     (λ a f. (refl, f)) (λ a f. refl) (from_prepare shape)
 
 from_prepared : (shape : Shape) (m : Message) → message_tag m ≡ 4 → MessageFits shape m → (p : Tid × ℕ) × (message.Prepared p.0 p.1 ≡ m) × (TidFits shape p.0 × IsNumber p.1)
@@ -91,7 +91,7 @@ reads_prepared : (shape : Shape) → IsShape shape → (n : ℕ) → n ≡ 4 →
 unfolding prepared_at
 reads_prepared shape is n e =
     reads_case message_tag (MessageFits shape) (message_fields shape) n 4 _ _ (both_at (tid_at shape) a_number) (λ (p : Tid × ℕ). message.Prepared p.0 p.1) e
-    (reads_both (TidFits shape) tid_spelling (tid_at shape) IsNumber number a_number (reads_tids shape is) reads_number)
+    (reads_both (TidFits shape) tid_encoding (tid_at shape) IsNumber number a_number (reads_tids shape is) reads_number)
     (λ a f. (refl, f)) (λ a f. refl) (from_prepared shape)
 
 from_commit : (shape : Shape) (m : Message) → message_tag m ≡ 5 → MessageFits shape m → (p : Tid × List ℕ) × (message.Commit p.0 p.1 ≡ m) × (TidFits shape p.0 × VectorFits shape p.1)
@@ -102,7 +102,7 @@ reads_commit : (shape : Shape) → IsShape shape → (n : ℕ) → n ≡ 5 → R
 unfolding commit_at
 reads_commit shape is n e =
     reads_case message_tag (MessageFits shape) (message_fields shape) n 5 _ _ (both_at (tid_at shape) (vector_at shape)) (λ (p : Tid × List ℕ). message.Commit p.0 p.1) e
-    (reads_both (TidFits shape) tid_spelling (tid_at shape) (VectorFits shape) (vector_spelling shape) (vector_at shape) (reads_tids shape is) (reads_vectors shape is))
+    (reads_both (TidFits shape) tid_encoding (tid_at shape) (VectorFits shape) (vector_encoding shape) (vector_at shape) (reads_tids shape is) (reads_vectors shape is))
     (λ a f. (refl, f)) (λ a f. refl) (from_commit shape)
 
 from_replicate : (shape : Shape) (m : Message) → message_tag m ≡ 6 → MessageFits shape m → (p : ℕ × (ℕ × (ℕ × (List (Tid × List ℕ × List Write))))) × (message.Replicate p.0 p.1.0 p.1.1.0 p.1.1.1 ≡ m) × ((IsOneOf (sites_of shape) p.0 × (IsNumber p.1.0 × (IsNumber p.1.1.0 × ListFits 0 most_slots (CommittedFits shape) p.1.1.1))) × (is_in_order (committed_before p.0) p.1.1.1 ≡ true))
@@ -113,13 +113,13 @@ reads_replicate : (shape : Shape) → IsShape shape → (n : ℕ) → n ≡ 6 �
 unfolding replicate_at
 reads_replicate shape is n e =
     let Fields : ℕ × (ℕ × (ℕ × (List (Tid × List ℕ × List Write)))) → Type 0 = λ p. IsOneOf (sites_of shape) p.0 × (IsNumber p.1.0 × (IsNumber p.1.1.0 × ListFits 0 most_slots (CommittedFits shape) p.1.1.1)) in
-    let fields : Reading (ℕ × (ℕ × (ℕ × (List (Tid × List ℕ × List Write))))) = both_at (number_between_at w8 1 (sites_of shape)) (both_at a_number (both_at a_number (list_at 0 most_slots (committed_at shape)))) in
+    let fields : Decoder (ℕ × (ℕ × (ℕ × (List (Tid × List ℕ × List Write))))) = both_at (number_between_at w8 1 (sites_of shape)) (both_at a_number (both_at a_number (list_at 0 most_slots (committed_at shape)))) in
     let Ordered : ℕ × (ℕ × (ℕ × (List (Tid × List ℕ × List Write)))) → Type 0 = λ p. is_in_order (committed_before p.0) p.1.1.1 ≡ true in
     reads_case message_tag (MessageFits shape) (message_fields shape) n 6 _ _ _ (λ (p : ℕ × (ℕ × (ℕ × (List (Tid × List ℕ × List Write))))). message.Replicate p.0 p.1.0 p.1.1.0 p.1.1.1) e
     (reads_passing Fields _ fields (λ p. is_in_order (committed_before p.0) p.1.1.1) Ordered
     (reads_both (IsOneOf (sites_of shape)) (λ n. n ∷ []) (number_between_at w8 1 (sites_of shape)) _ _ (both_at a_number (both_at a_number (list_at 0 most_slots (committed_at shape)))) (reads_sites shape is)
     (reads_both IsNumber number a_number _ _ (both_at a_number (list_at 0 most_slots (committed_at shape))) reads_number
-    (reads_both IsNumber number a_number (ListFits 0 most_slots (CommittedFits shape)) (list_spelling (committed_spelling shape)) (list_at 0 most_slots (committed_at shape)) reads_number (reads_lists (CommittedFits shape) (committed_spelling shape) (committed_at shape) 0 most_slots (omega arith) (reads_committed shape is)))))
+    (reads_both IsNumber number a_number (ListFits 0 most_slots (CommittedFits shape)) (list_encoding (committed_encoding shape)) (list_at 0 most_slots (committed_at shape)) reads_number (reads_lists (CommittedFits shape) (committed_encoding shape) (committed_at shape) 0 most_slots (omega arith) (reads_committed shape is)))))
     (λ p t. t) (λ p t. t))
     (λ a f. (refl, (f.0.0, (f.0.1.0, (f.0.1.1.0, (f.0.1.1.1, f.1)))))) (λ a f. refl) (from_replicate shape)
 
@@ -131,7 +131,7 @@ reads_known_local : (shape : Shape) → IsShape shape → (n : ℕ) → n ≡ 7 
 unfolding known_local_at
 reads_known_local shape is n e =
     reads_case message_tag (MessageFits shape) (message_fields shape) n 7 _ _ (both_at (vector_at shape) (vector_at shape)) (λ (p : List ℕ × List ℕ). message.KnownLocal p.0 p.1) e
-    (reads_both (VectorFits shape) (vector_spelling shape) (vector_at shape) (VectorFits shape) (vector_spelling shape) (vector_at shape) (reads_vectors shape is) (reads_vectors shape is))
+    (reads_both (VectorFits shape) (vector_encoding shape) (vector_at shape) (VectorFits shape) (vector_encoding shape) (vector_at shape) (reads_vectors shape is) (reads_vectors shape is))
     (λ a f. (refl, f)) (λ a f. refl) (from_known_local shape)
 
 from_stable : (shape : Shape) (m : Message) → message_tag m ≡ 8 → MessageFits shape m → (p : List ℕ) × (message.Stable p ≡ m) × (VectorFits shape p)
@@ -140,7 +140,7 @@ from_stable shape _ e f = absurd (omega (arith, e))
 
 reads_stable : (shape : Shape) → IsShape shape → (n : ℕ) → n ≡ 8 → ReadsTag shape n (made_at (λ p. message.Stable p) (vector_at shape))
 reads_stable shape is n e =
-    reads_case message_tag (MessageFits shape) (message_fields shape) n 8 (VectorFits shape) (vector_spelling shape) (vector_at shape) (λ (p : List ℕ). message.Stable p) e (reads_vectors shape is) (λ a f. (refl, f)) (λ a f. refl) (from_stable shape)
+    reads_case message_tag (MessageFits shape) (message_fields shape) n 8 (VectorFits shape) (vector_encoding shape) (vector_at shape) (λ (p : List ℕ). message.Stable p) e (reads_vectors shape is) (λ a f. (refl, f)) (λ a f. refl) (from_stable shape)
 
 from_known_global : (shape : Shape) (m : Message) → message_tag m ≡ 9 → MessageFits shape m → (p : List ℕ) × (message.KnownGlobal p ≡ m) × (VectorFits shape p)
 from_known_global shape (message.KnownGlobal vector) e f = (vector, refl, f)
@@ -148,7 +148,7 @@ from_known_global shape _ e f = absurd (omega (arith, e))
 
 reads_known_global : (shape : Shape) → IsShape shape → (n : ℕ) → n ≡ 9 → ReadsTag shape n (made_at (λ p. message.KnownGlobal p) (vector_at shape))
 reads_known_global shape is n e =
-    reads_case message_tag (MessageFits shape) (message_fields shape) n 9 (VectorFits shape) (vector_spelling shape) (vector_at shape) (λ (p : List ℕ). message.KnownGlobal p) e (reads_vectors shape is) (λ a f. (refl, f)) (λ a f. refl) (from_known_global shape)
+    reads_case message_tag (MessageFits shape) (message_fields shape) n 9 (VectorFits shape) (vector_encoding shape) (vector_at shape) (λ (p : List ℕ). message.KnownGlobal p) e (reads_vectors shape is) (λ a f. (refl, f)) (λ a f. refl) (from_known_global shape)
 
 from_submit : (shape : Shape) (m : Message) → message_tag m ≡ 10 → MessageFits shape m → (p : LogEntry) × (message.Submit p ≡ m) × (EntryFits shape p)
 from_submit shape (message.Submit entry) e f = (entry, refl, f)
@@ -156,7 +156,7 @@ from_submit shape _ e f = absurd (omega (arith, e))
 
 reads_submit : (shape : Shape) → IsShape shape → (n : ℕ) → n ≡ 10 → ReadsTag shape n (made_at (λ p. message.Submit p) (entry_at shape))
 reads_submit shape is n e =
-    reads_case message_tag (MessageFits shape) (message_fields shape) n 10 (EntryFits shape) (entry_spelling shape) (entry_at shape) (λ (p : LogEntry). message.Submit p) e (reads_entries shape is) (λ a f. (refl, f)) (λ a f. refl) (from_submit shape)
+    reads_case message_tag (MessageFits shape) (message_fields shape) n 10 (EntryFits shape) (entry_encoding shape) (entry_at shape) (λ (p : LogEntry). message.Submit p) e (reads_entries shape is) (λ a f. (refl, f)) (λ a f. refl) (from_submit shape)
 
 from_outcome : (shape : Shape) (m : Message) → message_tag m ≡ 11 → MessageFits shape m → (p : Tid × (ℕ × OutcomeEnd)) × (message.Outcome (record { tid = p.0; slot = p.1.0; end = p.1.1 }) ≡ m) × (TidFits shape p.0 × (IsNumber p.1.0 × EndFits shape p.1.1))
 from_outcome shape (message.Outcome outcome) e f = ((outcome.tid, (outcome.slot, outcome.end)), refl, f)
@@ -166,8 +166,8 @@ reads_outcome : (shape : Shape) → IsShape shape → (n : ℕ) → n ≡ 11 →
 unfolding outcome_at
 reads_outcome shape is n e =
     reads_case message_tag (MessageFits shape) (message_fields shape) n 11 _ _ (both_at (tid_at shape) (both_at a_number (end_at shape))) (λ (p : Tid × (ℕ × OutcomeEnd)). message.Outcome (record { tid = p.0; slot = p.1.0; end = p.1.1 })) e
-    (reads_both (TidFits shape) tid_spelling (tid_at shape) _ _ (both_at a_number (end_at shape)) (reads_tids shape is)
-    (reads_both IsNumber number a_number (EndFits shape) end_spelling (end_at shape) reads_number (reads_ends shape is)))
+    (reads_both (TidFits shape) tid_encoding (tid_at shape) _ _ (both_at a_number (end_at shape)) (reads_tids shape is)
+    (reads_both IsNumber number a_number (EndFits shape) end_encoding (end_at shape) reads_number (reads_ends shape is)))
     (λ a f. (refl, f)) (λ a f. refl) (from_outcome shape)
 
 from_deliver : (shape : Shape) (m : Message) → message_tag m ≡ 12 → MessageFits shape m → (p : ℕ × List Page) × (message.Deliver p.0 p.1 ≡ m) × (IsNumber p.0 × ListFits 1 most_slots (PageFits shape) p.1)
@@ -178,7 +178,7 @@ reads_deliver : (shape : Shape) → IsShape shape → (n : ℕ) → n ≡ 12 →
 unfolding deliver_at
 reads_deliver shape is n e =
     reads_case message_tag (MessageFits shape) (message_fields shape) n 12 _ _ (both_at a_number (list_at 1 most_slots (page_at shape))) (λ (p : ℕ × List Page). message.Deliver p.0 p.1) e
-    (reads_both IsNumber number a_number (ListFits 1 most_slots (PageFits shape)) (list_spelling (page_spelling shape)) (list_at 1 most_slots (page_at shape)) reads_number (reads_lists (PageFits shape) (page_spelling shape) (page_at shape) 1 most_slots (omega arith) (reads_pages shape is)))
+    (reads_both IsNumber number a_number (ListFits 1 most_slots (PageFits shape)) (list_encoding (page_encoding shape)) (list_at 1 most_slots (page_at shape)) reads_number (reads_lists (PageFits shape) (page_encoding shape) (page_at shape) 1 most_slots (omega arith) (reads_pages shape is)))
     (λ a f. (refl, f)) (λ a f. refl) (from_deliver shape)
 
 from_new_ballot : (shape : Shape) (m : Message) → message_tag m ≡ 13 → MessageFits shape m → (p : ℕ) × (message.NewBallot p ≡ m) × (IsNumber p)
@@ -199,7 +199,7 @@ reads_promise shape is n e =
     reads_case message_tag (MessageFits shape) (message_fields shape) n 14 _ _ (both_at a_number (both_at a_number (both_at a_number (list_at 0 most_slots (entry_at shape))))) (λ (p : ℕ × (ℕ × (ℕ × List LogEntry))). message.Promise p.0 p.1.0 p.1.1.0 p.1.1.1) e
     (reads_both IsNumber number a_number _ _ (both_at a_number (both_at a_number (list_at 0 most_slots (entry_at shape)))) reads_number
     (reads_both IsNumber number a_number _ _ (both_at a_number (list_at 0 most_slots (entry_at shape))) reads_number
-    (reads_both IsNumber number a_number (ListFits 0 most_slots (EntryFits shape)) (list_spelling (entry_spelling shape)) (list_at 0 most_slots (entry_at shape)) reads_number (reads_lists (EntryFits shape) (entry_spelling shape) (entry_at shape) 0 most_slots (omega arith) (reads_entries shape is)))))
+    (reads_both IsNumber number a_number (ListFits 0 most_slots (EntryFits shape)) (list_encoding (entry_encoding shape)) (list_at 0 most_slots (entry_at shape)) reads_number (reads_lists (EntryFits shape) (entry_encoding shape) (entry_at shape) 0 most_slots (omega arith) (reads_entries shape is)))))
     (λ a f. (refl, f)) (λ a f. refl) (from_promise shape)
 
 from_new_state : (shape : Shape) (m : Message) → message_tag m ≡ 15 → MessageFits shape m → (p : ℕ × (ℕ × List LogEntry)) × (message.NewState p.0 p.1.0 p.1.1 ≡ m) × (IsNumber p.0 × (IsNumber p.1.0 × ListFits 0 most_slots (EntryFits shape) p.1.1))
@@ -211,7 +211,7 @@ unfolding new_state_at
 reads_new_state shape is n e =
     reads_case message_tag (MessageFits shape) (message_fields shape) n 15 _ _ (both_at a_number (both_at a_number (list_at 0 most_slots (entry_at shape)))) (λ (p : ℕ × (ℕ × List LogEntry)). message.NewState p.0 p.1.0 p.1.1) e
     (reads_both IsNumber number a_number _ _ (both_at a_number (list_at 0 most_slots (entry_at shape))) reads_number
-    (reads_both IsNumber number a_number (ListFits 0 most_slots (EntryFits shape)) (list_spelling (entry_spelling shape)) (list_at 0 most_slots (entry_at shape)) reads_number (reads_lists (EntryFits shape) (entry_spelling shape) (entry_at shape) 0 most_slots (omega arith) (reads_entries shape is))))
+    (reads_both IsNumber number a_number (ListFits 0 most_slots (EntryFits shape)) (list_encoding (entry_encoding shape)) (list_at 0 most_slots (entry_at shape)) reads_number (reads_lists (EntryFits shape) (entry_encoding shape) (entry_at shape) 0 most_slots (omega arith) (reads_entries shape is))))
     (λ a f. (refl, f)) (λ a f. refl) (from_new_state shape)
 
 from_accept : (shape : Shape) (m : Message) → message_tag m ≡ 16 → MessageFits shape m → (p : ℕ × (ℕ × LogEntry)) × (message.Accept p.0 p.1.0 p.1.1 ≡ m) × (IsNumber p.0 × (IsNumber p.1.0 × EntryFits shape p.1.1))
@@ -223,7 +223,7 @@ unfolding accept_at
 reads_accept shape is n e =
     reads_case message_tag (MessageFits shape) (message_fields shape) n 16 _ _ (both_at a_number (both_at a_number (entry_at shape))) (λ (p : ℕ × (ℕ × LogEntry)). message.Accept p.0 p.1.0 p.1.1) e
     (reads_both IsNumber number a_number _ _ (both_at a_number (entry_at shape)) reads_number
-    (reads_both IsNumber number a_number (EntryFits shape) (entry_spelling shape) (entry_at shape) reads_number (reads_entries shape is)))
+    (reads_both IsNumber number a_number (EntryFits shape) (entry_encoding shape) (entry_at shape) reads_number (reads_entries shape is)))
     (λ a f. (refl, f)) (λ a f. refl) (from_accept shape)
 
 from_accepted : (shape : Shape) (m : Message) → message_tag m ≡ 17 → MessageFits shape m → (p : ℕ × ℕ) × (message.Accepted p.0 p.1 ≡ m) × (IsNumber p.0 × IsNumber p.1)
@@ -253,7 +253,7 @@ reads_learn : (shape : Shape) → IsShape shape → (n : ℕ) → n ≡ 19 → R
 unfolding learn_at
 reads_learn shape is n e =
     reads_case message_tag (MessageFits shape) (message_fields shape) n 19 _ _ (both_at a_number (list_at 1 most_slots (entry_at shape))) (λ (p : ℕ × List LogEntry). message.Learn p.0 p.1) e
-    (reads_both IsNumber number a_number (ListFits 1 most_slots (EntryFits shape)) (list_spelling (entry_spelling shape)) (list_at 1 most_slots (entry_at shape)) reads_number (reads_lists (EntryFits shape) (entry_spelling shape) (entry_at shape) 1 most_slots (omega arith) (reads_entries shape is)))
+    (reads_both IsNumber number a_number (ListFits 1 most_slots (EntryFits shape)) (list_encoding (entry_encoding shape)) (list_at 1 most_slots (entry_at shape)) reads_number (reads_lists (EntryFits shape) (entry_encoding shape) (entry_at shape) 1 most_slots (omega arith) (reads_entries shape is)))
     (λ a f. (refl, f)) (λ a f. refl) (from_learn shape)
 
 message_tag-within : (m : Message) → (1 ≤ message_tag m) × (message_tag m ≤ 19)

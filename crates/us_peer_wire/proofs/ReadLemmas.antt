@@ -5,7 +5,7 @@ use Rattle.std.specs.Int.{w8}
 use Rattle.us_base.specs.declared.shape.Shape.{Shape}
 use Rattle.us_base.specs.Shape.{IsShape, sites_of}
 use Rattle.us_wire.specs.Fields.{AreBytes}
-use Rattle.us_wire.specs.Readings.{number_between_at}
+use Rattle.us_wire.specs.Decoders.{number_between_at}
 use Rattle.us_peer_wire.proofs.PartLaws.{reads_sites}
 
 -- a site is the place of an entry

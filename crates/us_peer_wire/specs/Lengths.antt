@@ -1,4 +1,4 @@
--- How long spellings are. Where a list is longer than its count field can tell, it counts as if the field could.
+-- How long encodings are. Where a list is longer than its count field can tell, it counts as if the field could.
 use Rattle.std.specs.Prelude.{ℕ, ◌+◌, ◌*◌, option_to_list}
 use Rattle.us_base.specs.declared.shape.Shape.{Shape}
 use Rattle.us_value.specs.declared.operation.Op.{Op}
@@ -49,7 +49,8 @@ end_length Commit = 1
 end_length (Abort named item) = 1 + tid_length + item_length item
 
 abbrev pub message_length : Shape → Message → ℕ
-message_length shape (message.Get tid place at snapshot item op own) = tid_length + 1 + 8 + vector_length shape + item_length item + op_length op + list_length own_length own
+message_length shape (message.Get tid place at snapshot item op own) =
+    tid_length + 1 + 8 + vector_length shape + item_length item + op_length op + list_length own_length own
 message_length shape (message.Version version) = tid_length + 1 + 8 + form_length version.form
 message_length shape (message.Prepare tid snapshot writes) = tid_length + vector_length shape + list_length write_length writes
 message_length shape (message.Prepared tid ts) = tid_length + 8

@@ -1,4 +1,4 @@
-//! The numbers that stand for what is spelled.
+//! The numbers that stand for what is encoded.
 
 /// The tags of messages.
 pub(crate) mod tag {

@@ -2,27 +2,26 @@
 ghost use Rattle.std.specs.Prelude.{◌≡◌, IfOk};
 
 use crate::{Form, LogEntry, Message, Outcome, OutcomeEnd, Packet, Page, Verdict, Version};
-use std::alloc::Global;
 use us_fields::copies_of;
 use us_kind::Memory;
 use us_value::Effect;
 
 impl Packet {
     /// A copy of the packet.
-    pub fn copy(&self, alloc: Global) -> Result<Packet, Memory>
+    pub fn copy(&self) -> Result<Packet, Memory>
         ensures { IfOk result (λ copy. copy ≡ self.now) }
     {
         Ok(Packet {
             from: self.from,
             to: self.to,
-            message: self.message.copy(alloc)?,
+            message: self.message.copy()?,
         })
     }
 }
 
 impl Message {
     /// A copy of the message.
-    pub fn copy(&self, alloc: Global) -> Result<Message, Memory>
+    pub fn copy(&self) -> Result<Message, Memory>
         ensures { IfOk result (λ copy. copy ≡ self.now) }
     {
         Ok(match self {
@@ -41,7 +40,7 @@ impl Message {
                 snapshot: *snapshot,
                 item: item.copy()?,
                 op: op.copy()?,
-                own: copies_of(alloc, own.as_slice())?,
+                own: copies_of(own)?,
             },
             Message::Version { version } => Message::Version {
                 version: version.copy()?,
@@ -53,7 +52,7 @@ impl Message {
             } => Message::Prepare {
                 tid: *tid,
                 snapshot: *snapshot,
-                writes: copies_of(alloc, writes.as_slice())?,
+                writes: copies_of(writes)?,
             },
             Message::Prepared { tid, ts } => Message::Prepared { tid: *tid, ts: *ts },
             Message::Commit { tid, vector } => Message::Commit {
@@ -69,7 +68,7 @@ impl Message {
                 origin: *origin,
                 lo: *lo,
                 hi: *hi,
-                txs: copies_of(alloc, txs.as_slice())?,
+                txs: copies_of(txs)?,
             },
             Message::KnownLocal { known, horizon } => Message::KnownLocal {
                 known: *known,
@@ -78,14 +77,14 @@ impl Message {
             Message::Stable { vector } => Message::Stable { vector: *vector },
             Message::KnownGlobal { vector } => Message::KnownGlobal { vector: *vector },
             Message::Submit { entry } => Message::Submit {
-                entry: entry.copy_in(alloc)?,
+                entry: entry.copy()?,
             },
             Message::Outcome { outcome } => Message::Outcome {
                 outcome: outcome.copy()?,
             },
             Message::Deliver { first, pages } => Message::Deliver {
                 first: *first,
-                pages: copies_of(alloc, pages.as_slice())?,
+                pages: copies_of(pages)?,
             },
             Message::NewBallot { ballot } => Message::NewBallot { ballot: *ballot },
             Message::Promise {
@@ -97,12 +96,12 @@ impl Message {
                 ballot: *ballot,
                 accepted: *accepted,
                 base: *base,
-                tail: copies_of(alloc, tail.as_slice())?,
+                tail: copies_of(tail)?,
             },
             Message::NewState { ballot, base, tail } => Message::NewState {
                 ballot: *ballot,
                 base: *base,
-                tail: copies_of(alloc, tail.as_slice())?,
+                tail: copies_of(tail)?,
             },
             Message::Accept {
                 ballot,
@@ -111,7 +110,7 @@ impl Message {
             } => Message::Accept {
                 ballot: *ballot,
                 slot: *slot,
-                entry: entry.copy_in(alloc)?,
+                entry: entry.copy()?,
             },
             Message::Accepted { ballot, length } => Message::Accepted {
                 ballot: *ballot,
@@ -120,7 +119,7 @@ impl Message {
             Message::CatchUp { length } => Message::CatchUp { length: *length },
             Message::Learn { first, entries } => Message::Learn {
                 first: *first,
-                entries: copies_of(alloc, entries.as_slice())?,
+                entries: copies_of(entries)?,
             },
         })
     }
@@ -166,15 +165,15 @@ fn copy_of_effect(effect: &Option<Effect>) -> Result<Option<Effect>, Memory>
 }
 
 impl LogEntry {
-    /// A copy of the entry, with lists of this allocator.
-    pub fn copy_in(&self, alloc: Global) -> Result<LogEntry, Memory>
+    /// A copy of the entry.
+    pub fn copy(&self) -> Result<LogEntry, Memory>
         ensures { IfOk result (λ copy. copy ≡ self.now) }
     {
         Ok(LogEntry {
             tid: self.tid,
             snapshot: self.snapshot,
-            touches: copies_of(alloc, self.touches.as_slice())?,
-            writes: copies_of(alloc, self.writes.as_slice())?,
+            touches: copies_of(&self.touches)?,
+            writes: copies_of(&self.writes)?,
         })
     }
 }
@@ -209,7 +208,7 @@ impl OutcomeEnd {
 
 impl Page {
     /// A copy of the page.
-    pub fn copy(&self, alloc: Global) -> Result<Page, Memory>
+    pub fn copy(&self) -> Result<Page, Memory>
         ensures { IfOk result (λ copy. copy ≡ self.now) }
     {
         match self {
@@ -221,7 +220,7 @@ impl Page {
             } => Ok(Page::Holds {
                 tid: *tid,
                 vector: *vector,
-                writes: copies_of(alloc, writes.as_slice())?,
+                writes: copies_of(writes)?,
             }),
         }
     }

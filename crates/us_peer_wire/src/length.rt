@@ -2,7 +2,7 @@ ghost use Rattle.std.specs.Prelude.{◌≡◌, length};
 ghost use Rattle.us_base.specs.Shape.{IsShape};
 ghost use Rattle.us_value.specs.Lengths.{capped, item_length};
 ghost use Rattle.us_peer_wire.specs.Lengths.{op_length, form_length, end_length, message_length, packet_length};
-ghost use Rattle.us_peer_wire.specs.Packets.{packet_spelling, PacketFits};
+ghost use Rattle.us_peer_wire.specs.Packets.{packet_encoding, PacketFits};
 
 use crate::{Form, Message, OutcomeEnd, Packet};
 use us_base::Shape;
@@ -87,7 +87,7 @@ fn message_len(message: &Message, shape: Shape) -> usize
         }
         Message::KnownLocal { .. } => 2 * vector_len(shape),
         Message::Stable { .. } | Message::KnownGlobal { .. } => vector_len(shape),
-        Message::Submit { entry } => entry.spelled_len(shape),
+        Message::Submit { entry } => entry.encoded_len(shape),
         Message::Outcome { outcome } => end_len(&outcome.end).saturating_add(TID_LEN + NUMBER),
         Message::Deliver { pages, .. } => list_len(pages.as_slice(), shape).saturating_add(NUMBER),
         Message::NewBallot { .. } | Message::CatchUp { .. } => NUMBER,
@@ -97,7 +97,7 @@ fn message_len(message: &Message, shape: Shape) -> usize
         Message::NewState { tail, .. } => {
             list_len(tail.as_slice(), shape).saturating_add(2 * NUMBER)
         }
-        Message::Accept { entry, .. } => entry.spelled_len(shape).saturating_add(2 * NUMBER),
+        Message::Accept { entry, .. } => entry.encoded_len(shape).saturating_add(2 * NUMBER),
         Message::Accepted { .. } => 2 * NUMBER,
         Message::Learn { entries, .. } => {
             list_len(entries.as_slice(), shape).saturating_add(NUMBER)
@@ -110,7 +110,7 @@ fn message_len(message: &Message, shape: Shape) -> usize
 pub fn packet_len(packet: &Packet, shape: Shape) -> usize
     requires { IsShape shape }
     ensures value { result ≡ capped (packet_length shape packet.now) }
-    ensures is_frame { PacketFits shape packet.now → result ≡ length (packet_spelling shape packet.now) }
+    ensures is_frame { PacketFits shape packet.now → result ≡ length (packet_encoding shape packet.now) }
 {
     message_len(&packet.message, shape).saturating_add(HEAD)
 }

@@ -1,4 +1,4 @@
-//! Packets between actors, and how frames spell them.
+//! Packets between actors, and how frames encode them.
 #![tactic(auto)]
 
 mod codes;
@@ -12,7 +12,7 @@ mod read;
 mod tests;
 mod write;
 
-pub use laws::packets_are_read_as_spelled;
+pub use laws::packets_are_read_as_encoded;
 pub use length::packet_len;
 pub use message::{
     Actor, Form, LogEntry, Message, Outcome, OutcomeEnd, Packet, Page, Verdict, Version,

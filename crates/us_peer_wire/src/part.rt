@@ -1,6 +1,6 @@
 //! What messages hold: reading, writing, lengths.
 ghost use Rattle.us_base.specs.Shape.{IsShape};
-ghost use Rattle.us_fields.specs.Reading.{Tells};
+ghost use Rattle.us_fields.specs.DecodeResult.{Tells};
 ghost use Rattle.us_peer_wire.specs.Parts.{page_fields_at};
 
 use crate::codes::page_code;
@@ -20,14 +20,14 @@ use us_wire::{put_u8, take_u8};
 const OPERATIONS: u16 = Limits::OPERATIONS as u16;
 
 impl Field for LogEntry {
-    ghost use Rattle.us_peer_wire.specs.Parts.{entry_spelling, EntryFits, entry_at};
+    ghost use Rattle.us_peer_wire.specs.Parts.{entry_encoding, EntryFits, entry_at};
     ghost use Rattle.us_peer_wire.specs.Lengths.{entry_length};
 
     ghost fits = { EntryFits };
 
-    ghost spelling = { entry_spelling };
+    ghost encoding = { entry_encoding };
 
-    ghost reading = { entry_at };
+    ghost decoder = { entry_at };
 
     ghost size = { entry_length };
 
@@ -58,14 +58,14 @@ impl Field for LogEntry {
         put_writes(out, &self.writes, shape)
     }
 
-    fn spelled_len(&self, shape: Shape) -> usize {
+    fn encoded_len(&self, shape: Shape) -> usize {
         list_len(self.touches.as_slice(), shape)
             .saturating_add(list_len(self.writes.as_slice(), shape))
             .saturating_add(TID_LEN + vector_len(shape))
     }
 
-    fn copied(&self, alloc: Global) -> Result<LogEntry, Memory> {
-        self.copy_in(alloc)
+    fn copied(&self) -> Result<LogEntry, Memory> {
+        self.copy()
     }
 }
 
@@ -99,14 +99,14 @@ fn page_fields_in(
 }
 
 impl Field for Page {
-    ghost use Rattle.us_peer_wire.specs.Parts.{page_spelling, PageFits, page_at};
+    ghost use Rattle.us_peer_wire.specs.Parts.{page_encoding, PageFits, page_at};
     ghost use Rattle.us_peer_wire.specs.Lengths.{page_length};
 
     ghost fits = { PageFits };
 
-    ghost spelling = { page_spelling };
+    ghost encoding = { page_encoding };
 
-    ghost reading = { page_at };
+    ghost decoder = { page_at };
 
     ghost size = { page_length };
 
@@ -140,7 +140,7 @@ impl Field for Page {
         }
     }
 
-    fn spelled_len(&self, shape: Shape) -> usize {
+    fn encoded_len(&self, shape: Shape) -> usize {
         match self {
             Page::Skip => 1,
             Page::Holds { writes, .. } => {
@@ -149,7 +149,7 @@ impl Field for Page {
         }
     }
 
-    fn copied(&self, alloc: Global) -> Result<Page, Memory> {
-        self.copy(alloc)
+    fn copied(&self) -> Result<Page, Memory> {
+        self.copy()
     }
 }

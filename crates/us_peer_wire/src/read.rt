@@ -1,13 +1,13 @@
 ghost use Rattle.std.specs.Prelude.{◌≡◌, ◌<◌, ◌⊎◌, IfOk, IfSome, IsOk, Ok, Err, None, Some, slice_get};
 ghost use Rattle.us_base.specs.Shape.{IsShape, sites_of};
 ghost use Rattle.us_fields.specs.declared.fault.DecodeFault.{DecodeFault};
-ghost use Rattle.us_fields.specs.Reading.{Tells};
-ghost use Rattle.us_wire.specs.Readings.{number_between_at};
+ghost use Rattle.us_fields.specs.DecodeResult.{Tells};
+ghost use Rattle.us_wire.specs.Decoders.{number_between_at};
 ghost use Rattle.std.specs.Int.{w8};
 ghost use Rattle.us_peer_wire.specs.declared.message.Packet.{Packet};
 ghost use Rattle.us_peer_wire.specs.Parts.{actor_at, maybe_at, form_fields_at, form_at, end_fields_at, end_at};
 ghost use Rattle.us_peer_wire.specs.Messages.{a_number, get_at, version_at, prepare_at, prepared_at, commit_at, replicate_at, known_local_at, outcome_at, deliver_at, promise_at, new_state_at, accept_at, accepted_at, learn_at, early_fields_at, late_fields_at, message_fields_at};
-ghost use Rattle.us_peer_wire.specs.Packets.{packet_fields_at, packet_of, packet_spelling, PacketFits};
+ghost use Rattle.us_peer_wire.specs.Packets.{packet_fields_at, packet_of, packet_encoding, PacketFits};
 
 use crate::codes::{end_code, form_code, tag};
 use crate::{Actor, Form, LogEntry, Message, Outcome, OutcomeEnd, Packet, Page, Version};
@@ -541,15 +541,15 @@ fn packet_in(alloc: Global, frame: &[u8], shape: Shape) -> Result<Packet, Decode
     Ok(packet)
 }
 
-/// The packet that a whole frame is in a store of this shape: Malformed exactly where the frame is no packet's spelling.
+/// The packet that a whole frame is in a store of this shape: Malformed exactly where the frame is no packet's encoding.
 pub fn decode(alloc: Global, frame: &[u8], shape: Shape) -> Result<Packet, DecodeFault>
     requires { IsShape shape }
     ensures decoded { IfOk result (λ packet. packet_of shape frame.now ≡ Some packet) }
     ensures malformed { result ≡ Err DecodeFault.Malformed → packet_of shape frame.now ≡ None }
     ensures refused { packet_of shape frame.now ≡ None → IsOk result → ⊥ }
-    ensures is_spelling { IfOk result (λ packet. (frame.now ≡ packet_spelling shape packet) × PacketFits shape packet) }
-    ensures no_spelling { result ≡ Err DecodeFault.Malformed → (packet : Packet) → PacketFits shape packet → frame.now ≡ packet_spelling shape packet → ⊥ }
-    ensures spelling_is_read { (packet : Packet) → PacketFits shape packet → frame.now ≡ packet_spelling shape packet → (result ≡ Ok packet) ⊎ (result ≡ Err DecodeFault.Memory) }
+    ensures is_encoding { IfOk result (λ packet. (frame.now ≡ packet_encoding shape packet) × PacketFits shape packet) }
+    ensures no_encoding { result ≡ Err DecodeFault.Malformed → (packet : Packet) → PacketFits shape packet → frame.now ≡ packet_encoding shape packet → ⊥ }
+    ensures encoding_is_read { (packet : Packet) → PacketFits shape packet → frame.now ≡ packet_encoding shape packet → (result ≡ Ok packet) ⊎ (result ≡ Err DecodeFault.Memory) }
 {
     packet_in(alloc, frame, shape)
 }

@@ -10,6 +10,9 @@ use us_value::{Answer, Class, Effect, Item, Op, Write};
 /// One site and one partition: vectors have two entries.
 const ALONE: Shape = Shape { f: 0, parts: 1 };
 
+/// Three sites with two partitions each: vectors have four entries.
+const THREE: Shape = Shape { f: 1, parts: 2 };
+
 /// From the partition to the certifier.
 const ENDS: &[u8] = &[1, 1, 1, 0];
 
@@ -151,14 +154,15 @@ fn outcome(end: OutcomeEnd) -> Message {
     }
 }
 
-/// The whole frame with this tag and these fields, which have fewer than 250 bytes.
+/// The whole frame with this tag and these fields, which have fewer than 65,000 bytes.
 fn framed(alloc: Global, number: u8, parts: &[&[u8]]) -> Result<Vec<u8>, Memory> {
     let mut fields = Vec::from_slice(alloc, ENDS)?;
     for part in parts {
         fields.extend_from_slice(part)?;
     }
-    let length = ((fields.len() + 2) % 256) as u8;
-    let mut frame = Vec::from_slice(alloc, &[0, 0, 0, length, 1, number])?;
+    let length = ((fields.len() + 2) % 65_536) as u16;
+    let [high, low] = length.to_be_bytes();
+    let mut frame = Vec::from_slice(alloc, &[0, 0, high, low, 1, number])?;
     frame.extend_from_slice(fields.as_slice())?;
     Ok(frame)
 }
@@ -186,7 +190,7 @@ fn packet_of(alloc: Global, frame: &[u8]) -> Result<Option<Packet>, Memory> {
 /// Whether the frame is read as the packet, of which a copy is the same.
 fn is_read(alloc: Global, frame: &[u8], sent: &Packet) -> Result<bool, Memory> {
     match packet_of(alloc, frame)? {
-        Some(packet) => Ok(packet.copy(alloc)? == *sent),
+        Some(packet) => Ok(packet.copy()? == *sent),
         None => Ok(false),
     }
 }
@@ -406,14 +410,14 @@ fn messages_of_certifiers_are_read_and_written(rt: HostRuntime) -> Result<(), Fa
     Ok(())
 }
 
-/// Whether no packet is spelled by the frame with this tag and these fields.
+/// Whether no packet is encoded by the frame with this tag and these fields.
 fn is_malformed(alloc: Global, number: u8, parts: &[&[u8]]) -> Result<bool, Memory> {
     let frame = framed(alloc, number, parts)?;
     Ok(packet_of(alloc, frame.as_slice())?.is_none())
 }
 
 #[test]
-fn second_spellings_are_malformed(rt: HostRuntime) -> Result<(), Fail> {
+fn second_encodings_are_malformed(rt: HostRuntime) -> Result<(), Fail> {
     let alloc = rt.alloc();
     let write = &[0, 1, 1, 1, 0x61, 3, 6, 0, 2];
     let low = &[1, 1, 0, 0, 0, 0, 0, 0, 0, 2, 1];
@@ -463,6 +467,62 @@ fn second_spellings_are_malformed(rt: HostRuntime) -> Result<(), Fail> {
         is_malformed(alloc, 12, &[NINE, &[0, 9], &[0; 9]])?,
         "nine pages"
     );
+    Ok(())
+}
+
+/// So many touches behind their count.
+fn touches(alloc: Global, count: u8) -> Result<Vec<u8>, Memory> {
+    let mut fields = Vec::from_slice(alloc, &[0, count])?;
+    for _ in 0..count {
+        fields.extend_from_slice(&[1, 1, 0x61, 6])?;
+    }
+    Ok(fields)
+}
+
+#[test]
+fn a_transaction_touches_64_items(rt: HostRuntime) -> Result<(), Fail> {
+    let alloc = rt.alloc();
+    let most = touches(alloc, 64)?;
+    assert!(rt; !is_malformed(alloc, 10, &[TID, VECTOR, most.as_slice(), WRITES])?);
+    let more = touches(alloc, 65)?;
+    assert!(rt; is_malformed(alloc, 10, &[TID, VECTOR, more.as_slice(), WRITES])?);
+    Ok(())
+}
+
+/// Whether the frame is a packet's in a store of three sites, and this packet's frame is the same.
+fn is_of_three(alloc: Global, frame: &[u8]) -> Result<bool, Memory> {
+    match decode(alloc, frame, THREE) {
+        Ok(packet) => {
+            let again = encode(alloc, &packet, THREE)?;
+            Ok(again.as_slice() == frame && packet_len(&packet, THREE) == frame.len())
+        }
+        Err(DecodeFault::Malformed) => Ok(false),
+        Err(DecodeFault::Memory) => Err(Memory),
+    }
+}
+
+/// STABLE from a partition's actor to partition 2 of site 1, with the entries 0, 1, 2 and 3.
+fn stable_from(alloc: Global, site: u8, actor: u8) -> Result<Vec<u8>, Memory> {
+    let mut frame = Vec::from_slice(alloc, &[0, 0, 0, 38, 1, 8, site, actor, 1, 2])?;
+    for entry in [0, 1, 2, 3] {
+        frame.extend_from_slice(&[0, 0, 0, 0, 0, 0, 0, entry])?;
+    }
+    Ok(frame)
+}
+
+#[test]
+fn sites_and_actors_of_a_larger_store(rt: HostRuntime) -> Result<(), Fail> {
+    let alloc = rt.alloc();
+    let frame = stable_from(alloc, 3, 2)?;
+    assert!(rt; is_of_three(alloc, frame.as_slice())?);
+    assert!(rt;
+        packet_of(alloc, frame.as_slice())?.is_none(),
+        "in a store of one site"
+    );
+    for (site, actor) in [(0, 2), (4, 2), (3, 3)] {
+        let frame = stable_from(alloc, site, actor)?;
+        assert!(rt; !is_of_three(alloc, frame.as_slice())?);
+    }
     Ok(())
 }
 

@@ -1,12 +1,12 @@
 ghost use Rattle.std.specs.Prelude.{◌≡◌, ◌≤◌, ◌∷◌, ◌++◌, IfOk, option_to_list};
 ghost use Rattle.std.specs.Int.{w64, to_be_bytes};
 ghost use Rattle.us_base.specs.Shape.{IsShape};
-ghost use Rattle.us_migrate.specs.Spellings.{tid_spelling, vector_spelling, TidFits, VectorFits};
-ghost use Rattle.us_fields.specs.Lists.{list_spelling};
-ghost use Rattle.us_fields.specs.Effects.{effect_spelling};
-ghost use Rattle.us_peer_wire.specs.Parts.{actor_spelling, MaybeFits, form_spelling, FormFits, end_spelling, EndFits};
+ghost use Rattle.us_migrate.specs.Encodings.{tid_encoding, vector_encoding, TidFits, VectorFits};
+ghost use Rattle.us_fields.specs.Lists.{list_encoding};
+ghost use Rattle.us_fields.specs.Effects.{effect_encoding};
+ghost use Rattle.us_peer_wire.specs.Parts.{actor_encoding, MaybeFits, form_encoding, FormFits, end_encoding, EndFits};
 ghost use Rattle.us_peer_wire.specs.Messages.{message_tag, message_fields, MessageFits};
-ghost use Rattle.us_peer_wire.specs.Packets.{packet_fields, packet_spelling, PacketFits};
+ghost use Rattle.us_peer_wire.specs.Packets.{packet_fields, packet_encoding, PacketFits};
 
 use crate::codes::{end_code, form_code, tag};
 use crate::{Actor, Form, Message, OutcomeEnd, Packet};
@@ -46,7 +46,7 @@ fn tag_of(message: &Message) -> u8
 }
 
 fn put_actor(mut out: Vec<u8>, actor: Actor) -> Result<Vec<u8>, Memory>
-    ensures { IfOk result (λ new. new.items ≡ out.items ++ actor_spelling actor) }
+    ensures { IfOk result (λ new. new.items ≡ out.items ++ actor_encoding actor) }
 {
     put_u8(&mut out, actor.site)?;
     put_u8(&mut out, actor.actor)?;
@@ -54,11 +54,11 @@ fn put_actor(mut out: Vec<u8>, actor: Actor) -> Result<Vec<u8>, Memory>
 }
 
 /// An effect or none, as a list of at most one.
-#[tactic(auto, unfolding(us_wire::specs::Readings::many_spelling))]
+#[tactic(auto, unfolding(us_wire::specs::Decoders::many_encoding))]
 fn put_maybe(mut out: Vec<u8>, effect: &Option<Effect>, shape: Shape) -> Result<Vec<u8>, Memory>
     requires shape { IsShape shape }
     requires fits { MaybeFits shape effect.now }
-    ensures { IfOk result (λ new. new.items ≡ out.items ++ list_spelling effect_spelling (option_to_list effect.now)) }
+    ensures { IfOk result (λ new. new.items ≡ out.items ++ list_encoding effect_encoding (option_to_list effect.now)) }
 {
     match effect {
         None => {
@@ -75,7 +75,7 @@ fn put_maybe(mut out: Vec<u8>, effect: &Option<Effect>, shape: Shape) -> Result<
 fn put_form(mut out: Vec<u8>, form: &Form, shape: Shape) -> Result<Vec<u8>, Memory>
     requires shape { IsShape shape }
     requires fits { FormFits shape form.now }
-    ensures { IfOk result (λ new. new.items ≡ out.items ++ form_spelling form.now) }
+    ensures { IfOk result (λ new. new.items ≡ out.items ++ form_encoding form.now) }
 {
     match form {
         Form::Answered { answer, effect } => {
@@ -96,7 +96,7 @@ fn put_form(mut out: Vec<u8>, form: &Form, shape: Shape) -> Result<Vec<u8>, Memo
 fn put_end(mut out: Vec<u8>, end: &OutcomeEnd, shape: Shape) -> Result<Vec<u8>, Memory>
     requires shape { IsShape shape }
     requires fits { EndFits shape end.now }
-    ensures { IfOk result (λ new. new.items ≡ out.items ++ end_spelling end.now) }
+    ensures { IfOk result (λ new. new.items ≡ out.items ++ end_encoding end.now) }
 {
     match end {
         OutcomeEnd::Commit => {
@@ -121,7 +121,7 @@ fn put_number(mut out: Vec<u8>, number: u64) -> Result<Vec<u8>, Memory>
 fn put_a_vector(mut out: Vec<u8>, vector: &Vector, shape: Shape) -> Result<Vec<u8>, Memory>
     requires shape { IsShape shape }
     requires fits { VectorFits shape vector.now }
-    ensures { IfOk result (λ new. new.items ≡ out.items ++ vector_spelling shape vector.now) }
+    ensures { IfOk result (λ new. new.items ≡ out.items ++ vector_encoding shape vector.now) }
 {
     put_vector(&mut out, shape, vector)?;
     Ok(out)
@@ -132,7 +132,7 @@ fn put_tid_at(mut out: Vec<u8>, tid: Tid, vector: &Vector, shape: Shape) -> Resu
     requires shape { IsShape shape }
     requires tid { TidFits shape tid }
     requires vector { VectorFits shape vector.now }
-    ensures { IfOk result (λ new. new.items ≡ out.items ++ (tid_spelling tid ++ vector_spelling shape vector.now)) }
+    ensures { IfOk result (λ new. new.items ≡ out.items ++ (tid_encoding tid ++ vector_encoding shape vector.now)) }
 {
     put_tid(&mut out, shape, tid)?;
     put_a_vector(out, vector, shape)
@@ -142,7 +142,7 @@ fn put_tid_at(mut out: Vec<u8>, tid: Tid, vector: &Vector, shape: Shape) -> Resu
 fn put_tid_number(mut out: Vec<u8>, tid: Tid, number: u64, shape: Shape) -> Result<Vec<u8>, Memory>
     requires shape { IsShape shape }
     requires tid { TidFits shape tid }
-    ensures { IfOk result (λ new. new.items ≡ out.items ++ (tid_spelling tid ++ to_be_bytes w64 number)) }
+    ensures { IfOk result (λ new. new.items ≡ out.items ++ (tid_encoding tid ++ to_be_bytes w64 number)) }
 {
     put_tid(&mut out, shape, tid)?;
     put_number(out, number)
@@ -158,7 +158,7 @@ fn put_asked(
 ) -> Result<Vec<u8>, Memory>
     requires shape { IsShape shape }
     requires tid { TidFits shape tid }
-    ensures { IfOk result (λ new. new.items ≡ out.items ++ (tid_spelling tid ++ (place ∷ to_be_bytes w64 at))) }
+    ensures { IfOk result (λ new. new.items ≡ out.items ++ (tid_encoding tid ++ (place ∷ to_be_bytes w64 at))) }
 {
     put_tid(&mut out, shape, tid)?;
     put_u8(&mut out, place)?;
@@ -261,11 +261,11 @@ fn put_packet_fields(out: Vec<u8>, packet: &Packet, shape: Shape) -> Result<Vec<
 }
 
 /// The whole frame of a packet.
-#[tactic(auto, unfolding(crate::specs::Packets::packet_spelling))]
+#[tactic(auto, unfolding(crate::specs::Packets::packet_encoding))]
 pub fn encode(alloc: Global, packet: &Packet, shape: Shape) -> Result<Vec<u8>, Memory>
     requires shape { IsShape shape }
     requires fits { PacketFits shape packet.now }
-    ensures { IfOk result (λ frame. frame.items ≡ packet_spelling shape packet.now) }
+    ensures { IfOk result (λ frame. frame.items ≡ packet_encoding shape packet.now) }
 {
     let fields = put_packet_fields(Vec::new(alloc), packet, shape)?;
     frame_of(alloc, tag_of(&packet.message), fields.as_slice())

@@ -4,7 +4,7 @@ use Rattle.std.specs.Prelude.{◌+◌, ◌≤◌, ℤ, pos, ◌+ℤ◌, Some, No
 use Rattle.std.proofs.lemmas.Int.{ints}
 use Rattle.us_kind.specs.Histories.{all_from}
 use Rattle.us_kind.specs.Updates.{Stamped, All, Commutes, CountsUpdates, AnswersInOrder, state_after, updates_of}
-use Rattle.us_kind.specs.Words.{tag_of}
+use Rattle.us_kind.specs.Comparison.{tag_of}
 use Rattle.us_kind.specs.declared.identity.Stamp.{Stamp}
 use Rattle.us_kind.specs.declared.identity.Tag.{Tag}
 use Rattle.us_plain.specs.Counter.{counter_initial, counter_updated, counter_answered, counter_prepared, counter_reads, counter_value, amount_of, sum_of}

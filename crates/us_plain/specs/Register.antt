@@ -1,10 +1,10 @@
 -- The register.
 use Rattle.std.specs.Prelude.{ℕ, List, Bool, true, false, Option, Some, None, if◌then◌else◌, filter_map}
-use Rattle.us_kind.specs.Words.{bytes_less, last_of, stamp_lex}
+use Rattle.us_kind.specs.Comparison.{bytes_less, last_of, stamp_lex}
 use Rattle.us_kind.specs.Updates.{Update}
 use Rattle.us_kind.specs.declared.identity.Stamp.{Stamp}
 use Rattle.us_kind.specs.declared.identity.Tag.{Tag}
-use Rattle.us_plain.specs.declared.register.Kept.{Kept}
+use Rattle.us_plain.specs.declared.register.StampedValue.{StampedValue}
 use Rattle.us_plain.specs.declared.register.RegisterState.{RegisterState}
 use Rattle.us_plain.specs.declared.register.RegisterOp.{RegisterOp}
 use Rattle.us_plain.specs.declared.register.RegisterOp.TheVariants.{RegisterRead, RegisterWrite}
@@ -14,11 +14,11 @@ use Rattle.us_plain.specs.declared.register.RegisterAnswer.{RegisterAnswer}
 use Rattle.us_plain.specs.declared.register.RegisterAnswer.TheVariants.{Done, Nothing, Value}
 
 -- the first is the earlier write: by stamp, and of equal stamps by the bytes of the value
-abbrev pub kept_less : Kept → Kept → Bool
+abbrev pub kept_less : StampedValue → StampedValue → Bool
 kept_less a b = stamp_lex a.stamp b.stamp (bytes_less a.value b.value)
 
 -- the later of what was kept and a write
-abbrev pub keep_later : Option Kept → Kept → Option Kept
+abbrev pub keep_later : Option StampedValue → StampedValue → Option StampedValue
 keep_later None new = Some new
 keep_later (Some old) new = if kept_less old new then Some new else Some old
 
@@ -31,7 +31,7 @@ abbrev pub register_updated : RegisterState → RegisterEffect → Stamp → Reg
 register_updated s (Written value) stamp = record { kept = keep_later s.kept (record { stamp = stamp; value = value }) }
 
 -- what a read answers
-abbrev pub kept_answer : Option Kept → RegisterAnswer
+abbrev pub kept_answer : Option StampedValue → RegisterAnswer
 kept_answer None = Nothing
 kept_answer (Some kept) = Value kept.value
 

@@ -77,7 +77,7 @@ impl Replicated for Counter {
 
     ghost is_reading = { counter_reads };
 
-    ghost counted = { λ s. s.updates };
+    ghost update_count = { λ s. s.updates };
 
     ghost value = { counter_value };
 

@@ -7,4 +7,6 @@ mod register;
 mod tests;
 
 pub use counter::{Counter, CounterAnswer, CounterEffect, CounterOp, CounterState};
-pub use register::{Kept, Register, RegisterAnswer, RegisterEffect, RegisterOp, RegisterState};
+pub use register::{
+    Register, RegisterAnswer, RegisterEffect, RegisterOp, RegisterState, StampedValue,
+};

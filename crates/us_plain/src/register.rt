@@ -27,12 +27,12 @@ pub enum RegisterAnswer {
 
 /// The write that a register keeps.
 #[derive(Debug, PartialEq, Eq, Drop)]
-pub struct Kept {
+pub struct StampedValue {
     pub stamp: Stamp,
     pub value: Bytes,
 }
 
-impl Kept {
+impl StampedValue {
     ghost use Rattle.us_plain.specs.Register.{kept_less};
 
     /// Whether this is the earlier write: by stamp, and of equal stamps by the bytes of the value.
@@ -46,10 +46,10 @@ impl Kept {
         }
     }
 
-    pub fn copy(&self) -> Result<Kept, Memory>
+    pub fn copy(&self) -> Result<StampedValue, Memory>
         ensures { IfOk result (λ copy. copy ≡ self.now) }
     {
-        Ok(Kept {
+        Ok(StampedValue {
             stamp: self.stamp,
             value: self.value.copy()?,
         })
@@ -59,7 +59,7 @@ impl Kept {
 /// The last write so far, by its stamp.
 #[derive(Debug, PartialEq, Eq, Drop)]
 pub struct RegisterState {
-    pub kept: Option<Kept>,
+    pub kept: Option<StampedValue>,
 }
 
 impl RegisterState {
@@ -99,7 +99,7 @@ impl Replicated for Register {
 
     ghost is_reading = { register_reads };
 
-    ghost counted = { λ _. 0 };
+    ghost update_count = { λ _. 0 };
 
     ghost value = { register_value };
 
@@ -149,7 +149,7 @@ impl Replicated for Register {
             None => true,
         };
         if wins {
-            state.kept = Some(Kept {
+            state.kept = Some(StampedValue {
                 stamp,
                 value: value.copy()?,
             });

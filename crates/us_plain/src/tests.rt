@@ -106,7 +106,7 @@ fn register_in_all_orders(rt: HostRuntime) -> Result<(), Fail> {
                     Register::apply(alloc, &mut state, &write(alloc, value)?, *stamp)?;
                 }
             }
-            let kept = Kept {
+            let kept = StampedValue {
                 stamp: *last,
                 value: Bytes::from_slice(alloc, value)?,
             };

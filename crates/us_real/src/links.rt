@@ -83,7 +83,7 @@ impl Links for TcpLinks {
     fn start(&mut self, plan: &Plan) -> Result<(), StartFault> {
         self.plan = None;
         self.connections = None;
-        let kept = plan.copy(self.alloc)?;
+        let kept = plan.copy()?;
         match Connections::new(&self.rt, plan) {
             Ok(connections) => {
                 self.connections = Some(connections);

@@ -14,7 +14,7 @@ flat_map-at {X = X} f xs i x lt is =
     ap (λ (ys : List ℕ). ys ++ flat_map f (drop (i + 1) xs)) (flat_map_more f [] (take i xs) x ∙ ap (flat_map f) (sym next))
     ∙ sym (flat_map-append f (take (i + 1) xs) (drop (i + 1) xs)) ∙ ap (flat_map f) (take-append-drop (i + 1) xs)
 
--- the first texts were written, and a front of the next
+-- the first texts were written, and a prefix of the next
 pub stops_at : {X : Type 0} (f : X → List ℕ) (before now after : Option (List ℕ)) (xs : List X) (i : ℕ) (x : X) → i < length xs → x ≡ get_or xs i x
     → Appends before now (flat_map f (take i xs)) → AppendsPrefix now after (f x) → AppendsPrefix before after (flat_map f xs)
 stops_at f before now after xs i x lt is written part =

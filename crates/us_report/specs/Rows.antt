@@ -36,7 +36,15 @@ read = record { item = item; op = op.RegisterRead; answer = answer.Value value }
 abbrev pub two_entries : List Entry
 two_entries =
     record { tid = record { site = 1; coord = 1; seq = 1 }; session = session; number = 1; strong = false; ops = write ∷ read ∷ []; past = [] }
-    ∷ record { tid = record { site = 1; coord = 1; seq = 2 }; session = session; number = 2; strong = false; ops = read ∷ []; past = record { session = session; count = 1 } ∷ [] }
+    ∷ record {
+      tid = record { site = 1; coord = 1; seq = 2 };
+      session = session;
+      number = 2;
+      strong = false;
+      ops = read
+          ∷ [];
+      past = record { session = session; count = 1 } ∷ [];
+    }
     ∷ []
 
 abbrev pub two_report : Report
@@ -51,8 +59,8 @@ two_report_text =
 abbrev pub session_named : ℕ → ℕ → ℕ → SessionName
 session_named site coord number = record { site = site; coord = coord; number = number }
 
-abbrev pub counted : ℕ → ℕ → ℕ → ℕ → Count
-counted site coord number count = record { session = session_named site coord number; count = count }
+abbrev pub count_of : ℕ → ℕ → ℕ → ℕ → Count
+count_of site coord number count = record { session = session_named site coord number; count = count }
 
 -- each line once and more: a count of 0 isn't printed, and a past of such counts is a dash
 abbrev pub every_line_report : Report
@@ -68,7 +76,7 @@ every_line_report = record {
               record { item = record { space = 255; id = 0 ∷ 175 ∷ [] }; op = op.RegisterWrite (13 ∷ 222 ∷ []); answer = answer.Done }
               ∷ record { item = record { space = 9; id = 127 ∷ [] }; op = op.RegisterRead; answer = answer.Nothing }
               ∷ [];
-          past = counted 1 1 1 2 ∷ counted 2 1 1 0 ∷ counted 3 2 7 11 ∷ [];
+          past = count_of 1 1 1 2 ∷ count_of 2 1 1 0 ∷ count_of 3 2 7 11 ∷ [];
         }
         ∷ [];
     loose =
@@ -77,21 +85,21 @@ every_line_report = record {
           session = session_named 1 2 1;
           end = end.Open;
           ops = read ∷ [];
-          past = counted 1 1 1 1 ∷ [];
+          past = count_of 1 1 1 1 ∷ [];
         }
         ∷ record {
           tid = record { site = 2; coord = 1; seq = 5 };
           session = session_named 2 1 4;
           end = end.Left;
           ops = [];
-          past = counted 1 1 1 0 ∷ [];
+          past = count_of 1 1 1 0 ∷ [];
         }
         ∷ record {
           tid = record { site = 3; coord = 1; seq = 9 };
           session = session_named 3 1 2;
           end = end.Aborted (record { site = 1; coord = 2; seq = 6 }) (record { space = 7; id = 190 ∷ 3 ∷ [] });
           ops = [];
-          past = counted 2 1 4 5 ∷ [];
+          past = count_of 2 1 4 5 ∷ [];
         }
         ∷ [];
     links = record { session = session_named 1 2 3; from = session_named 3 1 1; count = 7 } ∷ [];

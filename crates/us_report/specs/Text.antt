@@ -76,16 +76,16 @@ abbrev pub done_text : Done → List ℕ
 done_text d = codes "o " ++ item_text d.item ++ codes " " ++ op_text d.op ++ codes " " ++ answer_text d.answer ++ codes "\n"
 
 -- a past counts transactions of this session
-abbrev pub is_counted : Count → Bool
-is_counted c = nat_lt 0 c.count
+abbrev pub is_positive : Count → Bool
+is_positive c = nat_lt 0 c.count
 
 -- a count after a space, where it is above 0
 abbrev pub count_text : Count → List ℕ
-count_text c = if is_counted c then codes " " ++ session_text c.session ++ codes "=" ++ decimal c.count else []
+count_text c = if is_positive c then codes " " ++ session_text c.session ++ codes "=" ++ decimal c.count else []
 
 -- a past after a space: its counts above 0 in their order, or a dash where there is none
 unfoldable pub past_text : List Count → List ℕ
-past_text past = if list_any is_counted past then flat_map count_text past else codes " -"
+past_text past = if list_any is_positive past then flat_map count_text past else codes " -"
 
 -- whether a transaction is strong
 abbrev pub kind_text : Bool → List ℕ

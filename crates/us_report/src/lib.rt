@@ -1,10 +1,10 @@
 //! The text of a report: what a run came to, line by line.
 #![tactic(auto)]
 
+mod display;
 mod lines;
 mod report;
 mod rows;
-mod words;
 mod writing;
 
 pub use report::{Report, ReportFault};

@@ -1,9 +1,9 @@
 ghost use Rattle.std.specs.Prelude.{◌≡◌, ◌++◌, OnOk, string_bytes, List, ℕ};
 ghost use Rattle.std.specs.List.{flat_map, list_any};
-ghost use Rattle.us_report.specs.Text.{past_text, count_text, is_counted};
+ghost use Rattle.us_report.specs.Text.{past_text, count_text, is_positive};
 
 use crate::Report;
-use crate::words::{
+use crate::display::{
     AnswerText, CountsText, EndText, ItemText, OpText, SessionText, TidText, kind_word,
 };
 use std::alloc::AllocError;
@@ -33,17 +33,17 @@ fn push_each<T: Lines>(line: &mut String, items: &[T]) -> Result<(), AllocError>
     Ok(())
 }
 
-fn is_counted(count: &Count) -> bool
-    ensures { result ≡ is_counted count.now }
+fn is_positive(count: &Count) -> bool
+    ensures { result ≡ is_positive count.now }
 {
     count.count > 0
 }
 
 /// Whether a past counts anything.
 fn counts_any(past: &[Count]) -> bool
-    ensures { result ≡ list_any is_counted past.now }
+    ensures { result ≡ list_any is_positive past.now }
 {
-    past.iter().any(is_counted)
+    past.iter().any(is_positive)
 }
 
 /// Adds each count that is above 0, after a space.
@@ -51,7 +51,7 @@ fn push_counts(line: &mut String, past: &[Count]) -> Result<(), AllocError>
     ensures { OnOk result (string_bytes line.new ≡ string_bytes line.old ++ flat_map count_text past.now) }
 {
     for count in past {
-        if is_counted(count) {
+        if is_positive(count) {
             write!(line, " {}={}", SessionText(count.session), count.count)?;
         }
     }

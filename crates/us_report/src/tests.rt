@@ -305,7 +305,7 @@ fn writes_worked_reports(rt: HostRuntime) -> Result<(), Fail> {
     Ok(())
 }
 
-// Each write fails in turn: a front of the text was written, and the fault is told.
+// Each write fails in turn: a prefix of the text was written, and the fault is told.
 #[test]
 fn stops_at_each_fault(rt: HostRuntime) -> Result<(), Fail> {
     let alloc = rt.alloc();

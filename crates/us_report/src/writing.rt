@@ -60,7 +60,7 @@ fn write_lines<K: Sink>(report: &Report, text: &mut String, sink: &mut K) -> Res
 
 /// Writes the text of a report, or its last line alone, in time that grows with what it writes.
 ///
-/// After an error a front of the text was written.
+/// After an error a prefix of the text was written.
 pub fn write_report<K: Sink>(
     alloc: Global,
     report: &Report,

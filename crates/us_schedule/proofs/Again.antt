@@ -15,10 +15,10 @@ use Rattle.us_base.specs.Shape.{sites_of, IsShape}
 use Rattle.us_schedule.specs.declared.fault.LineFault.{LineFault}
 use Rattle.us_schedule.specs.declared.line.Line.{Line}
 use Rattle.us_schedule.specs.declared.line.Line.TheVariants.{Open, Bytes, Close, Tick, Deliver, Flush, Lead, Forward, Crash, Settle}
-use Rattle.us_schedule.specs.Lines.{is_site, is_coord, is_actor, is_counted, is_clock, is_rounds, is_piece, number, one, two, three, three_and_hex, said, in_range, IsAllowed, words_of, spelling_of, lower_digit, Reading, Skipped, Found, text_read, read_of, is_skipped, line_read, WrittenIsRead, ReadIsWritten}
+use Rattle.us_schedule.specs.Lines.{is_site, is_coord, is_actor, is_positive, is_clock, is_rounds, is_piece, number, one, two, three, three_and_hex, said, in_range, IsAllowed, words_of, encoding_of, lower_digit, Reading, Skipped, Parsed, text_read, read_of, is_skipped, line_read, WrittenIsRead, ReadIsWritten}
 use Rattle.us_schedule.specs.Trace.{hex_alone, two_and_hex}
 use Rattle.us_schedule.proofs.Digits.{own, digits_decide}
-use Rattle.us_schedule.proofs.Words.{number_again, hex_again}
+use Rattle.us_schedule.proofs.Numerals.{number_again, hex_again}
 use Rattle.us_schedule.proofs.Grammar.{lower_words, said_is_read}
 
 -- ---- words and spaces
@@ -65,7 +65,7 @@ hex_no_space (b ∷ bytes) h =
 -- ---- written is read
 
 read_again : {L : Type 0} (says : List (List ℕ) → Result L LineFault) (c : ℕ) (name : List ℕ) (ws : List (List ℕ)) (line : L) → NoSpaces ((c ∷ name) ∷ ws)
-    → says ((c ∷ name) ∷ ws) ≡ Ok line → is_skipped (join_with_byte 32 ((c ∷ name) ∷ ws)) ≡ false → text_read says (join_with_byte 32 ((c ∷ name) ∷ ws)) ≡ Found line
+    → says ((c ∷ name) ∷ ws) ≡ Ok line → is_skipped (join_with_byte 32 ((c ∷ name) ∷ ws)) ≡ false → text_read says (join_with_byte 32 ((c ∷ name) ∷ ws)) ≡ Parsed line
 read_again says c name ws line spaces said skipped = rw (skipped, split_joined (c ∷ name) ws spaces, said) refl
 
 not_skipped : (c : ℕ) (rest : List ℕ) → eqb c 35 ≡ false → is_skipped (c ∷ rest) ≡ false
@@ -80,8 +80,8 @@ coord_below shape n ok h = let p : n ≤ shape.parts = leb-true _ _ (and_parts (
 pub actor_below : (shape : Shape) (n : ℕ) → IsShape shape → is_actor shape n ≡ true → n < 2 ^ 64
 actor_below shape n ok h = let p : n ≤ shape.parts = leb-true _ _ h in omega arith
 
-pub counted_below : (n : ℕ) → is_counted n ≡ true → n < 2 ^ 64
-counted_below n h = ltb-true n (2 ^ 64) (and_parts (leb 1 n) (ltb n (2 ^ 64)) h).1
+pub positive_below : (n : ℕ) → is_positive n ≡ true → n < 2 ^ 64
+positive_below n h = ltb-true n (2 ^ 64) (and_parts (leb 1 n) (ltb n (2 ^ 64)) h).1
 
 pub clock_below : (n : ℕ) → is_clock n ≡ true → n < 2 ^ 64
 clock_below n h = let p : n ≤ 2 ^ 59 = leb-true _ _ h in omega arith
@@ -127,20 +127,20 @@ words_again shape (Open site coord) ok h =
 words_again shape (Bytes site coord session bytes) ok h =
     let r = and_parts (is_site shape site) _ h.ranges in
     let q = and_parts (is_coord shape coord) _ r.1 in
-    let p = and_parts (is_counted session) (is_piece bytes) q.1 in
+    let p = and_parts (is_positive session) (is_piece bytes) q.1 in
     let ls = site_below shape site ok r.0 in
     let lc = coord_below shape coord ok q.0 in
-    let ln = counted_below session p.0 in
+    let ln = positive_below session p.0 in
     record {
       says_line = three_and_hex_again (in_range shape) Bytes site coord session bytes ls lc ln h.bytes h.ranges;
       spaces = ((refl, (refl, (refl, (refl, (refl, tt))))), (decimal_no_space site ls, (decimal_no_space coord lc, (decimal_no_space session ln, (hex_no_space bytes h.bytes, tt)))));
     }
 words_again shape (Close site coord session) ok h =
     let r = and_parts (is_site shape site) _ h.ranges in
-    let q = and_parts (is_coord shape coord) (is_counted session) r.1 in
+    let q = and_parts (is_coord shape coord) (is_positive session) r.1 in
     let ls = site_below shape site ok r.0 in
     let lc = coord_below shape coord ok q.0 in
-    let ln = counted_below session q.1 in
+    let ln = positive_below session q.1 in
     record {
       says_line = three_again (in_range shape) Close site coord session ls lc ln h.ranges;
       spaces = ((refl, (refl, (refl, (refl, (refl, tt))))), (decimal_no_space site ls, (decimal_no_space coord lc, (decimal_no_space session ln, tt))));
@@ -156,7 +156,7 @@ words_again shape (Tick site actor clock) ok h =
       spaces = ((refl, (refl, (refl, (refl, tt)))), (decimal_no_space site ls, (decimal_no_space actor la, (decimal_no_space clock lk, tt))));
     }
 words_again shape (Deliver number) ok h =
-    let ln = counted_below number h.ranges in
+    let ln = positive_below number h.ranges in
     record {
       says_line = one_again (in_range shape) Deliver number ln h.ranges;
       spaces = ((refl, (refl, (refl, (refl, (refl, (refl, (refl, tt))))))), (decimal_no_space number ln, tt));
@@ -199,21 +199,21 @@ words_again shape (Settle clock rounds) ok h =
       spaces = ((refl, (refl, (refl, (refl, (refl, (refl, tt)))))), (decimal_no_space clock lk, (decimal_no_space rounds lr, tt)));
     }
 
-pub again : {L : Type 0} (says : List (List ℕ) → Result L LineFault) (all : List (List ℕ)) (line : L) (c : ℕ) (name : List ℕ) (w : List ℕ) (ws : List (List ℕ)) → all ≡ (c ∷ name) ∷ w ∷ ws → eqb c 35 ≡ false → AreWords L says all line → text_read says (join_with_byte 32 all) ≡ Found line
+pub again : {L : Type 0} (says : List (List ℕ) → Result L LineFault) (all : List (List ℕ)) (line : L) (c : ℕ) (name : List ℕ) (w : List ℕ) (ws : List (List ℕ)) → all ≡ (c ∷ name) ∷ w ∷ ws → eqb c 35 ≡ false → AreWords L says all line → text_read says (join_with_byte 32 all) ≡ Parsed line
 again says all line c name w ws is other words =
-    let P : List (List ℕ) → Type 0 = λ ws. text_read says (join_with_byte 32 ws) ≡ Found line in
+    let P : List (List ℕ) → Type 0 = λ ws. text_read says (join_with_byte 32 ws) ≡ Parsed line in
     let S : List (List ℕ) → Type 0 = λ ws. NoSpaces ws in
     let Q : List (List ℕ) → Type 0 = λ ws. says ws ≡ Ok line in
     subst P (sym is) (read_again says c name (w ∷ ws) line (subst S is words.spaces) (subst Q is words.says_line) (not_skipped c (name ++ 32 ∷ join_with_byte 32 (w ∷ ws)) other))
 
 -- the same of a line of its name alone
-pub name_again : {L : Type 0} (says : List (List ℕ) → Result L LineFault) (line : L) (c : ℕ) (name : List ℕ) → eqb c 35 ≡ false → AreWords L says ((c ∷ name) ∷ []) line → text_read says (join_with_byte 32 ((c ∷ name) ∷ [])) ≡ Found line
+pub name_again : {L : Type 0} (says : List (List ℕ) → Result L LineFault) (line : L) (c : ℕ) (name : List ℕ) → eqb c 35 ≡ false → AreWords L says ((c ∷ name) ∷ []) line → text_read says (join_with_byte 32 ((c ∷ name) ∷ [])) ≡ Parsed line
 name_again says line c name other words = read_again says c name [] line words.spaces words.says_line (not_skipped c name other)
 
 pub written_is_read : WrittenIsRead
 written_is_read shape line ok h = by_name line (words_again shape line ok h)
   where
-    by_name : (line : Line) → AreWords Line (said shape) (words_of line) line → line_read shape (spelling_of line) ≡ Found line
+    by_name : (line : Line) → AreWords Line (said shape) (words_of line) line → line_read shape (encoding_of line) ≡ Parsed line
     by_name (Open site coord) words = again (said shape) (words_of (Open site coord)) (Open site coord) _ _ _ _ refl refl words
     by_name (Bytes site coord session bytes) words = again (said shape) (words_of (Bytes site coord session bytes)) (Bytes site coord session bytes) _ _ _ _ refl refl words
     by_name (Close site coord session) words = again (said shape) (words_of (Close site coord session)) (Close site coord session) _ _ _ _ refl refl words
@@ -232,16 +232,16 @@ lower_joined [] = refl
 lower_joined (w ∷ []) = refl
 lower_joined (w ∷ x ∷ ws) = map-append lower_digit w (32 ∷ join_with_byte 32 (x ∷ ws)) ∙ ap (λ (r : List ℕ). map lower_digit w ++ 32 ∷ r) (lower_joined (x ∷ ws))
 
-pub found_is : {L : Type 0} (r : Result L LineFault) (line : L) → read_of r ≡ Found line → r ≡ Ok line
+pub found_is : {L : Type 0} (r : Result L LineFault) (line : L) → read_of r ≡ Parsed line → r ≡ Ok line
 found_is (Ok made) line e = let k : made ≡ line = cc in ap Ok k
 found_is (Err f) line e = absurd cc
 
-pub not_none : {L : Type 0} (b : Bool) (read : Reading L) (line : L) → cond b Skipped read ≡ Found line → read ≡ Found line
+pub not_none : {L : Type 0} (b : Bool) (read : Reading L) (line : L) → cond b Skipped read ≡ Parsed line → read ≡ Parsed line
 not_none true read line e = absurd cc
 not_none false read line e = e
 
 pub read_is_written : ReadIsWritten
 read_is_written shape text line e =
     let r = said_is_read shape (split_words text) line (found_is (said shape (split_words text)) line (not_none (is_skipped text) (read_of (said shape (split_words text))) line e)) in
-    let spelled = ap (map lower_digit) (sym (join_with_byte-slice_split 32 text)) ∙ lower_joined (split_words text) ∙ ap (join_with_byte 32) r.spelled in
-    (spelled, r.allowed)
+    let encoded = ap (map lower_digit) (sym (join_with_byte-slice_split 32 text)) ∙ lower_joined (split_words text) ∙ ap (join_with_byte 32) r.encoded in
+    (encoded, r.allowed)

@@ -37,9 +37,6 @@ too_large word i lt h =
     let both : (all_ascii_digits word && ltb (digits_value 10 word) (2 ^ 64)) ≡ false = and_right (all_ascii_digits word) (ltb (digits_value 10 word) (2 ^ 64)) e in
     rw both refl
 
-pub value_none : IsValue [] 0
-value_none = record { digits = tt; is = refl }
-
 value_of_digit : (c : ℕ) → IsAsciiDigit c → digit_value c ≡ c - 48
 value_of_digit c h = grind (arith, nat_tests)
 

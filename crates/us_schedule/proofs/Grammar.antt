@@ -16,7 +16,7 @@ use Rattle.us_schedule.specs.declared.line.Line.{Line}
 use Rattle.us_schedule.specs.declared.line.Line.TheVariants.{Open, Bytes, Close, Tick, Deliver, Flush, Lead, Forward, Crash, Settle}
 use Rattle.us_schedule.specs.Lines.{◌>>=◌, number, hex, within, one, two, three, three_and_hex, said_by_one, said_by_two, said_by_three, said_by_four, said, in_range, bytes_of, IsAllowed, words_of, lower_digit, Refused, is_skipped, line_read}
 use Rattle.us_schedule.specs.Trace.{hex_alone, two_and_hex}
-use Rattle.us_schedule.proofs.Words.{number_ok, lower_decimal, hex_ok}
+use Rattle.us_schedule.proofs.Numerals.{number_ok, lower_decimal, hex_ok}
 
 -- no line has one word, or more than five
 pub said_other : (shape : Shape) (words : List (List ℕ)) → (length words < 2) ⊎ (5 < length words) → said shape words ≡ Err fault.BadWord
@@ -56,71 +56,71 @@ within_ok ranges made line e =
       | inr h ↦ absurd cc
     ]
 
--- ---- what is read is spelled so, and is in range
+-- ---- what is read is encoded so, and is in range
 
 abbrev pub lower_words : List (List ℕ) → List (List ℕ)
 lower_words words = map (λ w. map lower_digit w) words
 
--- how lines of a kind are spelled: their words, the bytes that they bring, and whether they are in range
-pub record Spelling (L : Type 0) : Type 0 where
+-- how lines of a kind are encoded: their words, the bytes that they bring, and whether they are in range
+pub record Encoding (L : Type 0) : Type 0 where
   pub words : L → List (List ℕ)
   pub bytes : L → List ℕ
   pub ranges : L → Bool
 
 -- lines of a schedule
-abbrev pub schedule_spelling : Shape → Spelling Line
-schedule_spelling shape = record { words = words_of; bytes = bytes_of; ranges = in_range shape }
+abbrev pub schedule_encoding : Shape → Encoding Line
+schedule_encoding shape = record { words = words_of; bytes = bytes_of; ranges = in_range shape }
 
-pub record IsReadBy (L : Type 0) (g : Spelling L) (words : List (List ℕ)) (line : L) : Type 0 where
-  pub spelled : lower_words words ≡ g.words line
+pub record IsReadBy (L : Type 0) (g : Encoding L) (words : List (List ℕ)) (line : L) : Type 0 where
+  pub encoded : lower_words words ≡ g.words line
   pub ranges : IsTrue (g.ranges line)
   pub bytes : IsBytes (g.bytes line)
 
 pub record IsRead (shape : Shape) (words : List (List ℕ)) (line : Line) : Type 0 where
-  pub spelled : lower_words words ≡ words_of line
+  pub encoded : lower_words words ≡ words_of line
   pub allowed : IsAllowed shape line
 
 no_byte : IsBytes []
 no_byte i = omega arith
 
 lower_number : (word : List ℕ) (n : ℕ) → number word ≡ Ok n → map lower_digit word ≡ decimal n
-lower_number word n e = let h = number_ok word n e in ap (λ (w : List ℕ). map lower_digit w) h.spelled ∙ lower_decimal n h.below
+lower_number word n e = let h = number_ok word n e in ap (λ (w : List ℕ). map lower_digit w) h.encoded ∙ lower_decimal n h.below
 
 -- a line without bytes
-pub record IsPlain (L : Type 0) (g : Spelling L) (name : List ℕ) (numbers : List ℕ) (line : L) : Type 0 where
+pub record IsPlain (L : Type 0) (g : Encoding L) (name : List ℕ) (numbers : List ℕ) (line : L) : Type 0 where
   pub words : g.words line ≡ name ∷ map decimal numbers
   pub none : g.bytes line ≡ []
 
 -- a line whose last word is bytes in hex
-pub record Brings (L : Type 0) (g : Spelling L) (name : List ℕ) (numbers bytes : List ℕ) (line : L) : Type 0 where
+pub record Brings (L : Type 0) (g : Encoding L) (name : List ℕ) (numbers bytes : List ℕ) (line : L) : Type 0 where
   pub words : g.words line ≡ name ∷ (map decimal numbers ++ encode_lower bytes ∷ [])
   pub brought : g.bytes line ≡ bytes
 
-pub read_plain : {L : Type 0} (g : Spelling L) (name : List ℕ) (words : List (List ℕ)) (numbers : List ℕ) (made line : L)
+pub read_plain : {L : Type 0} (g : Encoding L) (name : List ℕ) (words : List (List ℕ)) (numbers : List ℕ) (made line : L)
     → map lower_digit name ≡ name → lower_words words ≡ map decimal numbers → IsPlain L g name numbers made → within g.ranges made ≡ Ok line → IsReadBy L g (name ∷ words) line
 read_plain {L} g name words numbers made line low ws plain e =
     let w = within_ok g.ranges made line e in
-    let spelled : lower_words (name ∷ words) ≡ g.words made = rw (low, ws) (sym plain.words) in
+    let encoded : lower_words (name ∷ words) ≡ g.words made = rw (low, ws) (sym plain.words) in
     let P : L → Type 0 = λ l. IsReadBy L g (name ∷ words) l in
-    subst P w.1 (record { spelled = spelled; ranges = w.0; bytes = subst (λ (bs : List ℕ). IsBytes bs) (sym plain.none) no_byte })
+    subst P w.1 (record { encoded = encoded; ranges = w.0; bytes = subst (λ (bs : List ℕ). IsBytes bs) (sym plain.none) no_byte })
 
-read_hex : {L : Type 0} (g : Spelling L) (name : List ℕ) (words : List (List ℕ)) (word : List ℕ) (numbers bytes : List ℕ) (made line : L)
+read_hex : {L : Type 0} (g : Encoding L) (name : List ℕ) (words : List (List ℕ)) (word : List ℕ) (numbers bytes : List ℕ) (made line : L)
     → map lower_digit name ≡ name → lower_words words ≡ map decimal numbers → hex word ≡ Ok bytes → Brings L g name numbers bytes made → within g.ranges made ≡ Ok line → IsReadBy L g (name ∷ (words ++ word ∷ [])) line
 read_hex {L} g name words word numbers bytes made line low ws h brings e =
     let w = within_ok g.ranges made line e in
     let x = hex_ok word bytes h in
-    let last = x.spelled in
-    let spelled : lower_words (name ∷ (words ++ word ∷ [])) ≡ g.words made = rw (low, map-append (λ (w : List ℕ). map lower_digit w) words (word ∷ []), ws, last) (sym brings.words) in
+    let last = x.encoded in
+    let encoded : lower_words (name ∷ (words ++ word ∷ [])) ≡ g.words made = rw (low, map-append (λ (w : List ℕ). map lower_digit w) words (word ∷ []), ws, last) (sym brings.words) in
     let P : L → Type 0 = λ l. IsReadBy L g (name ∷ (words ++ word ∷ [])) l in
-    subst P w.1 (record { spelled = spelled; ranges = w.0; bytes = subst (λ (bs : List ℕ). IsBytes bs) (sym brings.brought) x.fits })
+    subst P w.1 (record { encoded = encoded; ranges = w.0; bytes = subst (λ (bs : List ℕ). IsBytes bs) (sym brings.brought) x.fits })
 
-pub one_ok : {L : Type 0} (g : Spelling L) (make : ℕ → L) (name a : List ℕ) (line : L) → map lower_digit name ≡ name → ((x : ℕ) → IsPlain L g name (x ∷ []) (make x)) → one g.ranges make a ≡ Ok line → IsReadBy L g (name ∷ a ∷ []) line
+pub one_ok : {L : Type 0} (g : Encoding L) (make : ℕ → L) (name a : List ℕ) (line : L) → map lower_digit name ≡ name → ((x : ℕ) → IsPlain L g name (x ∷ []) (make x)) → one g.ranges make a ≡ Ok line → IsReadBy L g (name ∷ a ∷ []) line
 one_ok g make name a line low plain e =
     let x = bind_ok (number a) (λ x. within g.ranges (make x)) line e in
     let wx = lower_number a x.0 x.1 in
     read_plain g name (a ∷ []) (x.0 ∷ []) (make x.0) line low (rw wx refl) (plain x.0) x.2
 
-pub two_ok : {L : Type 0} (g : Spelling L) (make : ℕ → ℕ → L) (name a b : List ℕ) (line : L) → map lower_digit name ≡ name → ((x y : ℕ) → IsPlain L g name (x ∷ y ∷ []) (make x y)) → two g.ranges make a b ≡ Ok line → IsReadBy L g (name ∷ a ∷ b ∷ []) line
+pub two_ok : {L : Type 0} (g : Encoding L) (make : ℕ → ℕ → L) (name a b : List ℕ) (line : L) → map lower_digit name ≡ name → ((x y : ℕ) → IsPlain L g name (x ∷ y ∷ []) (make x y)) → two g.ranges make a b ≡ Ok line → IsReadBy L g (name ∷ a ∷ b ∷ []) line
 two_ok g make name a b line low plain e =
     let x = bind_ok (number a) (λ x. number b >>= λ y. within g.ranges (make x y)) line e in
     let y = bind_ok (number b) (λ y. within g.ranges (make x.0 y)) line x.2 in
@@ -128,7 +128,7 @@ two_ok g make name a b line low plain e =
     let wy = lower_number b y.0 y.1 in
     read_plain g name (a ∷ b ∷ []) (x.0 ∷ y.0 ∷ []) (make x.0 y.0) line low (rw (wx, wy) refl) (plain x.0 y.0) y.2
 
-three_ok : {L : Type 0} (g : Spelling L) (make : ℕ → ℕ → ℕ → L) (name a b c : List ℕ) (line : L) → map lower_digit name ≡ name → ((x y z : ℕ) → IsPlain L g name (x ∷ y ∷ z ∷ []) (make x y z)) → three g.ranges make a b c ≡ Ok line → IsReadBy L g (name ∷ a ∷ b ∷ c ∷ []) line
+three_ok : {L : Type 0} (g : Encoding L) (make : ℕ → ℕ → ℕ → L) (name a b c : List ℕ) (line : L) → map lower_digit name ≡ name → ((x y z : ℕ) → IsPlain L g name (x ∷ y ∷ z ∷ []) (make x y z)) → three g.ranges make a b c ≡ Ok line → IsReadBy L g (name ∷ a ∷ b ∷ c ∷ []) line
 three_ok g make name a b c line low plain e =
     let x = bind_ok (number a) (λ x. number b >>= λ y. number c >>= λ z. within g.ranges (make x y z)) line e in
     let y = bind_ok (number b) (λ y. number c >>= λ z. within g.ranges (make x.0 y z)) line x.2 in
@@ -138,12 +138,12 @@ three_ok g make name a b c line low plain e =
     let wz = lower_number c z.0 z.1 in
     read_plain g name (a ∷ b ∷ c ∷ []) (x.0 ∷ y.0 ∷ z.0 ∷ []) (make x.0 y.0 z.0) line low (rw (wx, wy, wz) refl) (plain x.0 y.0 z.0) z.2
 
-pub hex_alone_ok : {L : Type 0} (g : Spelling L) (make : List ℕ → L) (name a : List ℕ) (line : L) → map lower_digit name ≡ name → ((bytes : List ℕ) → Brings L g name [] bytes (make bytes)) → hex_alone g.ranges make a ≡ Ok line → IsReadBy L g (name ∷ a ∷ []) line
+pub hex_alone_ok : {L : Type 0} (g : Encoding L) (make : List ℕ → L) (name a : List ℕ) (line : L) → map lower_digit name ≡ name → ((bytes : List ℕ) → Brings L g name [] bytes (make bytes)) → hex_alone g.ranges make a ≡ Ok line → IsReadBy L g (name ∷ a ∷ []) line
 hex_alone_ok g make name a line low brings e =
     let bytes = bind_ok (hex a) (λ bytes. within g.ranges (make bytes)) line e in
     read_hex g name [] a [] bytes.0 (make bytes.0) line low refl bytes.1 (brings bytes.0) bytes.2
 
-pub two_and_hex_ok : {L : Type 0} (g : Spelling L) (make : ℕ → ℕ → List ℕ → L) (name a b c : List ℕ) (line : L) → map lower_digit name ≡ name → ((x y : ℕ) (bytes : List ℕ) → Brings L g name (x ∷ y ∷ []) bytes (make x y bytes)) → two_and_hex g.ranges make a b c ≡ Ok line
+pub two_and_hex_ok : {L : Type 0} (g : Encoding L) (make : ℕ → ℕ → List ℕ → L) (name a b c : List ℕ) (line : L) → map lower_digit name ≡ name → ((x y : ℕ) (bytes : List ℕ) → Brings L g name (x ∷ y ∷ []) bytes (make x y bytes)) → two_and_hex g.ranges make a b c ≡ Ok line
     → IsReadBy L g (name ∷ a ∷ b ∷ c ∷ []) line
 two_and_hex_ok g make name a b c line low brings e =
     let x = bind_ok (number a) (λ x. number b >>= λ y. hex c >>= λ bytes. within g.ranges (make x y bytes)) line e in
@@ -153,7 +153,7 @@ two_and_hex_ok g make name a b c line low brings e =
     let wy = lower_number b y.0 y.1 in
     read_hex g name (a ∷ b ∷ []) c (x.0 ∷ y.0 ∷ []) bytes.0 (make x.0 y.0 bytes.0) line low (rw (wx, wy) refl) bytes.1 (brings x.0 y.0 bytes.0) bytes.2
 
-three_and_hex_ok : {L : Type 0} (g : Spelling L) (make : ℕ → ℕ → ℕ → List ℕ → L) (name a b c d : List ℕ) (line : L) → map lower_digit name ≡ name → ((x y z : ℕ) (bytes : List ℕ) → Brings L g name (x ∷ y ∷ z ∷ []) bytes (make x y z bytes))
+three_and_hex_ok : {L : Type 0} (g : Encoding L) (make : ℕ → ℕ → ℕ → List ℕ → L) (name a b c d : List ℕ) (line : L) → map lower_digit name ≡ name → ((x y z : ℕ) (bytes : List ℕ) → Brings L g name (x ∷ y ∷ z ∷ []) bytes (make x y z bytes))
     → three_and_hex g.ranges make a b c d ≡ Ok line → IsReadBy L g (name ∷ a ∷ b ∷ c ∷ d ∷ []) line
 three_and_hex_ok g make name a b c d line low brings e =
     let x = bind_ok (number a) (λ x. number b >>= λ y. number c >>= λ z. hex d >>= λ bytes. within g.ranges (make x y z bytes)) line e in
@@ -168,10 +168,10 @@ three_and_hex_ok g make name a b c d line low brings e =
 pub named : (name lit : List ℕ) → bytes_eq name lit ≡ true → name ≡ lit
 named name lit e = (bytes_eq-Decides name lit).0 e
 
-pub plain : {L : Type 0} {g : Spelling L} {name numbers : List ℕ} {line : L} → g.words line ≡ name ∷ map decimal numbers → g.bytes line ≡ [] → IsPlain L g name numbers line
+pub plain : {L : Type 0} {g : Encoding L} {name numbers : List ℕ} {line : L} → g.words line ≡ name ∷ map decimal numbers → g.bytes line ≡ [] → IsPlain L g name numbers line
 plain w n = record { words = w; none = n }
 
-pub brings : {L : Type 0} {g : Spelling L} {name numbers bytes : List ℕ} {line : L} → g.words line ≡ name ∷ (map decimal numbers ++ encode_lower bytes ∷ []) → g.bytes line ≡ bytes → Brings L g name numbers bytes line
+pub brings : {L : Type 0} {g : Encoding L} {name numbers bytes : List ℕ} {line : L} → g.words line ≡ name ∷ (map decimal numbers ++ encode_lower bytes ∷ []) → g.bytes line ≡ bytes → Brings L g name numbers bytes line
 brings w b = record { words = w; brought = b }
 
 abbrev pub unknown : {L : Type 0} → Result L LineFault
@@ -180,58 +180,58 @@ unknown = Err fault.BadWord
 pub bad_word : {L : Type 0} (line : L) (A : Type 0) → unknown {L = L} ≡ Ok line → A
 bad_word line A e = absurd cc
 
-by_one : (shape : Shape) (name a : List ℕ) (line : Line) → said_by_one shape name a ≡ Ok line → IsReadBy Line (schedule_spelling shape) (name ∷ a ∷ []) line
+by_one : (shape : Shape) (name a : List ℕ) (line : Line) → said_by_one shape name a ≡ Ok line → IsReadBy Line (schedule_encoding shape) (name ∷ a ∷ []) line
 by_one shape name a line e =
-    let P : List ℕ → Type 0 = λ n. IsReadBy Line (schedule_spelling shape) (n ∷ a ∷ []) line in
+    let P : List ℕ → Type 0 = λ n. IsReadBy Line (schedule_encoding shape) (n ∷ a ∷ []) line in
     elim (chosen (bytes_eq name (codes "deliver")) (one (in_range shape) Deliver a) _ (Ok line) e) [
-      | inl h ↦ subst P (sym (named name (codes "deliver") h.0)) (one_ok (schedule_spelling shape) Deliver (codes "deliver") a line refl (λ x. plain refl refl) h.1)
+      | inl h ↦ subst P (sym (named name (codes "deliver") h.0)) (one_ok (schedule_encoding shape) Deliver (codes "deliver") a line refl (λ x. plain refl refl) h.1)
       | inr h ↦ elim (chosen (bytes_eq name (codes "lead")) (one (in_range shape) Lead a) _ (Ok line) h.1) [
-        | inl h ↦ subst P (sym (named name (codes "lead") h.0)) (one_ok (schedule_spelling shape) Lead (codes "lead") a line refl (λ x. plain refl refl) h.1)
+        | inl h ↦ subst P (sym (named name (codes "lead") h.0)) (one_ok (schedule_encoding shape) Lead (codes "lead") a line refl (λ x. plain refl refl) h.1)
         | inr h ↦ elim (chosen (bytes_eq name (codes "crash")) (one (in_range shape) Crash a) _ (Ok line) h.1) [
-          | inl h ↦ subst P (sym (named name (codes "crash") h.0)) (one_ok (schedule_spelling shape) Crash (codes "crash") a line refl (λ x. plain refl refl) h.1)
+          | inl h ↦ subst P (sym (named name (codes "crash") h.0)) (one_ok (schedule_encoding shape) Crash (codes "crash") a line refl (λ x. plain refl refl) h.1)
           | inr h ↦ bad_word line _ h.1
         ]
       ]
     ]
 
-by_two : (shape : Shape) (name a b : List ℕ) (line : Line) → said_by_two shape name a b ≡ Ok line → IsReadBy Line (schedule_spelling shape) (name ∷ a ∷ b ∷ []) line
+by_two : (shape : Shape) (name a b : List ℕ) (line : Line) → said_by_two shape name a b ≡ Ok line → IsReadBy Line (schedule_encoding shape) (name ∷ a ∷ b ∷ []) line
 by_two shape name a b line e =
-    let P : List ℕ → Type 0 = λ n. IsReadBy Line (schedule_spelling shape) (n ∷ a ∷ b ∷ []) line in
+    let P : List ℕ → Type 0 = λ n. IsReadBy Line (schedule_encoding shape) (n ∷ a ∷ b ∷ []) line in
     elim (chosen (bytes_eq name (codes "open")) (two (in_range shape) Open a b) _ (Ok line) e) [
-      | inl h ↦ subst P (sym (named name (codes "open") h.0)) (two_ok (schedule_spelling shape) Open (codes "open") a b line refl (λ x y. plain refl refl) h.1)
+      | inl h ↦ subst P (sym (named name (codes "open") h.0)) (two_ok (schedule_encoding shape) Open (codes "open") a b line refl (λ x y. plain refl refl) h.1)
       | inr h ↦ elim (chosen (bytes_eq name (codes "flush")) (two (in_range shape) Flush a b) _ (Ok line) h.1) [
-        | inl h ↦ subst P (sym (named name (codes "flush") h.0)) (two_ok (schedule_spelling shape) Flush (codes "flush") a b line refl (λ x y. plain refl refl) h.1)
+        | inl h ↦ subst P (sym (named name (codes "flush") h.0)) (two_ok (schedule_encoding shape) Flush (codes "flush") a b line refl (λ x y. plain refl refl) h.1)
         | inr h ↦ elim (chosen (bytes_eq name (codes "forward")) (two (in_range shape) Forward a b) _ (Ok line) h.1) [
-          | inl h ↦ subst P (sym (named name (codes "forward") h.0)) (two_ok (schedule_spelling shape) Forward (codes "forward") a b line refl (λ x y. plain refl refl) h.1)
+          | inl h ↦ subst P (sym (named name (codes "forward") h.0)) (two_ok (schedule_encoding shape) Forward (codes "forward") a b line refl (λ x y. plain refl refl) h.1)
           | inr h ↦ elim (chosen (bytes_eq name (codes "settle")) (two (in_range shape) Settle a b) _ (Ok line) h.1) [
-            | inl h ↦ subst P (sym (named name (codes "settle") h.0)) (two_ok (schedule_spelling shape) Settle (codes "settle") a b line refl (λ x y. plain refl refl) h.1)
+            | inl h ↦ subst P (sym (named name (codes "settle") h.0)) (two_ok (schedule_encoding shape) Settle (codes "settle") a b line refl (λ x y. plain refl refl) h.1)
             | inr h ↦ bad_word line _ h.1
           ]
         ]
       ]
     ]
 
-by_three : (shape : Shape) (name a b c : List ℕ) (line : Line) → said_by_three shape name a b c ≡ Ok line → IsReadBy Line (schedule_spelling shape) (name ∷ a ∷ b ∷ c ∷ []) line
+by_three : (shape : Shape) (name a b c : List ℕ) (line : Line) → said_by_three shape name a b c ≡ Ok line → IsReadBy Line (schedule_encoding shape) (name ∷ a ∷ b ∷ c ∷ []) line
 by_three shape name a b c line e =
-    let P : List ℕ → Type 0 = λ n. IsReadBy Line (schedule_spelling shape) (n ∷ a ∷ b ∷ c ∷ []) line in
+    let P : List ℕ → Type 0 = λ n. IsReadBy Line (schedule_encoding shape) (n ∷ a ∷ b ∷ c ∷ []) line in
     elim (chosen (bytes_eq name (codes "close")) (three (in_range shape) Close a b c) _ (Ok line) e) [
-      | inl h ↦ subst P (sym (named name (codes "close") h.0)) (three_ok (schedule_spelling shape) Close (codes "close") a b c line refl (λ x y z. plain refl refl) h.1)
+      | inl h ↦ subst P (sym (named name (codes "close") h.0)) (three_ok (schedule_encoding shape) Close (codes "close") a b c line refl (λ x y z. plain refl refl) h.1)
       | inr h ↦ elim (chosen (bytes_eq name (codes "tick")) (three (in_range shape) Tick a b c) _ (Ok line) h.1) [
-        | inl h ↦ subst P (sym (named name (codes "tick") h.0)) (three_ok (schedule_spelling shape) Tick (codes "tick") a b c line refl (λ x y z. plain refl refl) h.1)
+        | inl h ↦ subst P (sym (named name (codes "tick") h.0)) (three_ok (schedule_encoding shape) Tick (codes "tick") a b c line refl (λ x y z. plain refl refl) h.1)
         | inr h ↦ bad_word line _ h.1
       ]
     ]
 
-by_four : (shape : Shape) (name a b c d : List ℕ) (line : Line) → said_by_four shape name a b c d ≡ Ok line → IsReadBy Line (schedule_spelling shape) (name ∷ a ∷ b ∷ c ∷ d ∷ []) line
+by_four : (shape : Shape) (name a b c d : List ℕ) (line : Line) → said_by_four shape name a b c d ≡ Ok line → IsReadBy Line (schedule_encoding shape) (name ∷ a ∷ b ∷ c ∷ d ∷ []) line
 by_four shape name a b c d line e =
-    let P : List ℕ → Type 0 = λ n. IsReadBy Line (schedule_spelling shape) (n ∷ a ∷ b ∷ c ∷ d ∷ []) line in
+    let P : List ℕ → Type 0 = λ n. IsReadBy Line (schedule_encoding shape) (n ∷ a ∷ b ∷ c ∷ d ∷ []) line in
     elim (chosen (bytes_eq name (codes "bytes")) (three_and_hex (in_range shape) Bytes a b c d) _ (Ok line) e) [
-      | inl h ↦ subst P (sym (named name (codes "bytes") h.0)) (three_and_hex_ok (schedule_spelling shape) Bytes (codes "bytes") a b c d line refl (λ x y z bytes. brings refl refl) h.1)
+      | inl h ↦ subst P (sym (named name (codes "bytes") h.0)) (three_and_hex_ok (schedule_encoding shape) Bytes (codes "bytes") a b c d line refl (λ x y z bytes. brings refl refl) h.1)
       | inr h ↦ bad_word line _ h.1
     ]
 
-is_read : (shape : Shape) (words : List (List ℕ)) (line : Line) → IsReadBy Line (schedule_spelling shape) words line → IsRead shape words line
-is_read shape words line h = record { spelled = h.spelled; allowed = record { ranges = h.ranges; bytes = h.bytes } }
+is_read : (shape : Shape) (words : List (List ℕ)) (line : Line) → IsReadBy Line (schedule_encoding shape) words line → IsRead shape words line
+is_read shape words line h = record { encoded = h.encoded; allowed = record { ranges = h.ranges; bytes = h.bytes } }
 
 pub said_is_read : (shape : Shape) (words : List (List ℕ)) (line : Line) → said shape words ≡ Ok line → IsRead shape words line
 unfolding said

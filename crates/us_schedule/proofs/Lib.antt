@@ -1,5 +1,5 @@
 pub mod Digits
-pub mod Words
+pub mod Numerals
 pub mod Grammar
 pub mod First
 pub mod Again

@@ -37,9 +37,6 @@ after_none : (parted : Option Parted) → parted ≡ after_lines [] 0 parted
 after_none None = refl
 after_none (Some p) = let z : p.line ≡ 0 + p.line = omega arith in ap (λ (n : ℕ). Some (record { before = p.before; line = n; behind = p.behind })) z
 
-pub past_start : (text : List ℕ) → IsPast text text 1
-past_start text = record { front = []; whole = refl; positive = omega arith; small = omega arith; parted = after_none (parted_lines (raw_lines text)); count = omega arith }
-
 after_after : (front raw : List ℕ) (m n k : ℕ) (parted : Option Parted) → m + n ≡ k → after_lines front m (after_lines raw n parted) ≡ after_lines (front ++ raw) k parted
 after_after front raw m n k None e = refl
 after_after front raw m n k (Some p) e =

@@ -7,10 +7,10 @@ use Rattle.us_base.specs.declared.shape.Shape.{Shape}
 use Rattle.us_base.specs.Shape.{IsShape}
 use Rattle.us_schedule.specs.declared.trace_line.TraceLine.{TraceLine}
 use Rattle.us_schedule.specs.declared.trace_line.TraceLine.TheVariants.{Node, Open, Bytes, Close, Tick, Take, Lead, Forward, Lost, NoPoll, Bad, End}
-use Rattle.us_schedule.specs.Lines.{is_site, is_coord, is_actor, is_counted, is_clock, is_piece, lower_digit, Found, read_of, is_skipped}
-use Rattle.us_schedule.specs.Trace.{is_part, in_trace_range, IsAllowedTrace, trace_words_of, trace_spelling_of, trace_said, trace_read, TraceWrittenIsRead, TraceReadIsWritten}
+use Rattle.us_schedule.specs.Lines.{is_site, is_coord, is_actor, is_positive, is_clock, is_piece, lower_digit, Parsed, read_of, is_skipped}
+use Rattle.us_schedule.specs.Trace.{is_part, in_trace_range, IsAllowedTrace, trace_words_of, trace_encoding_of, trace_said, trace_read, TraceWrittenIsRead, TraceReadIsWritten}
 use Rattle.us_schedule.proofs.TraceGrammar.{trace_said_is_read}
-use Rattle.us_schedule.proofs.Again.{AreWords, NoSpaces, split_words, decimal_no_space, hex_no_space, site_below, coord_below, actor_below, counted_below, clock_below, one_again, two_again, hex_alone_again, two_and_hex_again, again, name_again, lower_joined, found_is, not_none}
+use Rattle.us_schedule.proofs.Again.{AreWords, NoSpaces, split_words, decimal_no_space, hex_no_space, site_below, coord_below, actor_below, positive_below, clock_below, one_again, two_again, hex_alone_again, two_and_hex_again, again, name_again, lower_joined, found_is, not_none}
 
 words_again : (shape : Shape) (line : TraceLine) → IsShape shape → IsAllowedTrace shape line → AreWords TraceLine (trace_said shape) (trace_words_of line) line
 unfolding trace_said
@@ -28,17 +28,17 @@ words_again shape (Open coord) ok h =
     }
 words_again shape (Bytes coord session bytes) ok h =
     let r = and_parts (is_coord shape coord) _ h.ranges in
-    let q = and_parts (is_counted session) (is_piece bytes) r.1 in
+    let q = and_parts (is_positive session) (is_piece bytes) r.1 in
     let lc = coord_below shape coord ok r.0 in
-    let ln = counted_below session q.0 in
+    let ln = positive_below session q.0 in
     record {
       says_line = two_and_hex_again (in_trace_range shape) Bytes coord session bytes lc ln h.bytes h.ranges;
       spaces = ((refl, (refl, (refl, (refl, (refl, tt))))), (decimal_no_space coord lc, (decimal_no_space session ln, (hex_no_space bytes h.bytes, tt))));
     }
 words_again shape (Close coord session) ok h =
-    let r = and_parts (is_coord shape coord) (is_counted session) h.ranges in
+    let r = and_parts (is_coord shape coord) (is_positive session) h.ranges in
     let lc = coord_below shape coord ok r.0 in
-    let ln = counted_below session r.1 in
+    let ln = positive_below session r.1 in
     record {
       says_line = two_again (in_trace_range shape) Close coord session lc ln h.ranges;
       spaces = ((refl, (refl, (refl, (refl, (refl, tt))))), (decimal_no_space coord lc, (decimal_no_space session ln, tt)));
@@ -96,7 +96,7 @@ words_again shape (End turns) ok h =
 pub trace_written_is_read : TraceWrittenIsRead
 trace_written_is_read shape line ok h = by_name line (words_again shape line ok h)
   where
-    by_name : (line : TraceLine) → AreWords TraceLine (trace_said shape) (trace_words_of line) line → trace_read shape (trace_spelling_of line) ≡ Found line
+    by_name : (line : TraceLine) → AreWords TraceLine (trace_said shape) (trace_words_of line) line → trace_read shape (trace_encoding_of line) ≡ Parsed line
     by_name (Node site) words = again (trace_said shape) (trace_words_of (Node site)) (Node site) _ _ _ _ refl refl words
     by_name (Open coord) words = again (trace_said shape) (trace_words_of (Open coord)) (Open coord) _ _ _ _ refl refl words
     by_name (Bytes coord session bytes) words = again (trace_said shape) (trace_words_of (Bytes coord session bytes)) (Bytes coord session bytes) _ _ _ _ refl refl words
@@ -113,5 +113,5 @@ trace_written_is_read shape line ok h = by_name line (words_again shape line ok 
 pub trace_read_is_written : TraceReadIsWritten
 trace_read_is_written shape text line e =
     let r = trace_said_is_read shape (split_words text) line (found_is (trace_said shape (split_words text)) line (not_none (is_skipped text) (read_of (trace_said shape (split_words text))) line e)) in
-    let spelled = ap (map lower_digit) (sym (join_with_byte-slice_split 32 text)) ∙ lower_joined (split_words text) ∙ ap (join_with_byte 32) r.spelled in
-    (spelled, r.allowed)
+    let encoded = ap (map lower_digit) (sym (join_with_byte-slice_split 32 text)) ∙ lower_joined (split_words text) ∙ ap (join_with_byte 32) r.encoded in
+    (encoded, r.allowed)

@@ -1,5 +1,6 @@
--- The lines of a schedule: what each says, how it is spelled, and why a line is refused.
-use Rattle.std.specs.Prelude.{◌≡◌, ℕ, ◌+◌, ◌^◌, ◌==◌, nat_lt, nat_le, not, Bool, false, ◌&&◌, ◌||◌, if◌then◌else◌, List, [], ◌∷◌, length, map, take, drop, slice_index, codes, IsTrue, Option, Some, None, Result, Ok, Err, is_ok}
+-- The lines of a schedule: what each says, how it is encoded, and why a line is refused.
+use Rattle.std.specs.Prelude.{◌≡◌, ℕ, ◌+◌, ◌^◌, ◌==◌, nat_lt, nat_le, not, Bool, false, ◌&&◌, ◌||◌, if◌then◌else◌, List, [], ◌∷◌, length, map, take, drop}
+use Rattle.std.specs.Prelude.{slice_index, codes, IsTrue, Option, Some, None, Result, Ok, Err, is_ok}
 use Rattle.std.specs.List.{slice_split, join_with_byte, list_any, list_all}
 use Rattle.std.specs.Str.{all_ascii_digits, bytes_eq}
 use Rattle.std.specs.Str.Parse.{digits_value}
@@ -25,8 +26,8 @@ abbrev pub is_actor : Shape → ℕ → Bool
 is_actor shape n = nat_le n shape.parts
 
 -- a session's number, or a packet's
-abbrev pub is_counted : ℕ → Bool
-is_counted n = nat_le 1 n && nat_lt n (2 ^ 64)
+abbrev pub is_positive : ℕ → Bool
+is_positive n = nat_le 1 n && nat_lt n (2 ^ 64)
 
 abbrev pub is_clock : ℕ → Bool
 is_clock n = nat_le n (2 ^ 59)
@@ -40,10 +41,10 @@ is_piece bytes = nat_le 1 (length bytes) && nat_le (length bytes) 65536
 -- each value of the line is in its range
 abbrev pub in_range : Shape → Line → Bool
 in_range shape (Open site coord) = is_site shape site && is_coord shape coord
-in_range shape (Bytes site coord session bytes) = is_site shape site && (is_coord shape coord && (is_counted session && is_piece bytes))
-in_range shape (Close site coord session) = is_site shape site && (is_coord shape coord && is_counted session)
+in_range shape (Bytes site coord session bytes) = is_site shape site && (is_coord shape coord && (is_positive session && is_piece bytes))
+in_range shape (Close site coord session) = is_site shape site && (is_coord shape coord && is_positive session)
 in_range shape (Tick site actor clock) = is_site shape site && (is_actor shape actor && is_clock clock)
-in_range shape (Deliver number) = is_counted number
+in_range shape (Deliver number) = is_positive number
 in_range shape (Flush from to) = is_site shape from && is_site shape to
 in_range shape (Lead site) = is_site shape site
 in_range shape (Forward site origin) = is_site shape site && (is_site shape origin && not (site == origin))
@@ -60,7 +61,7 @@ pub record IsAllowed (shape : Shape) (line : Line) : Type 0 where
   pub ranges : IsTrue (in_range shape line)
   pub bytes : IsBytes (bytes_of line)
 
--- ---- spelling
+-- ---- encoding
 
 -- the words of a line
 abbrev pub words_of : Line → List (List ℕ)
@@ -76,15 +77,15 @@ words_of (Crash site) = codes "crash" ∷ decimal site ∷ []
 words_of (Settle clock rounds) = codes "settle" ∷ decimal clock ∷ decimal rounds ∷ []
 
 -- the words with one space between
-abbrev pub spelling_of : Line → List ℕ
-spelling_of line = join_with_byte 32 (words_of line)
+abbrev pub encoding_of : Line → List ℕ
+encoding_of line = join_with_byte 32 (words_of line)
 
 -- ---- reading
 
 -- what a text says as a line of the kind L
 pub data Reading (L : Type 0) : Type 0 where
   Skipped : Reading L
-  Found : L → Reading L
+  Parsed : L → Reading L
   Refused : LineFault → Reading L
 
 -- what a line of a schedule says
@@ -184,7 +185,7 @@ said shape (name ∷ a ∷ b ∷ c ∷ d ∷ []) = said_by_four shape name a b c
 said shape _ = Err fault.BadWord
 
 abbrev pub read_of : {L : Type 0} → Result L LineFault → Reading L
-read_of (Ok line) = Found line
+read_of (Ok line) = Parsed line
 read_of (Err e) = Refused e
 
 -- a blank line, or one that begins with #
@@ -199,7 +200,7 @@ text_read said text = if is_skipped text then Skipped else read_of (said (slice_
 abbrev pub line_read : Shape → List ℕ → Read
 line_read shape text = text_read (said shape) text
 
--- ---- what is written is read, and what is read is spelled so
+-- ---- what is written is read, and what is read is encoded so
 
 -- a letter of a hex digit in lower case
 abbrev pub lower_digit : ℕ → ℕ
@@ -207,15 +208,17 @@ lower_digit c = if nat_le 65 c && nat_le c 70 then c + 32 else c
 
 -- a line that the grammar allows is read as itself
 abbrev pub WrittenIsRead : Type 0
-WrittenIsRead = (shape : Shape) (line : Line) → IsShape shape → IsAllowed shape line → line_read shape (spelling_of line) ≡ Found line
+WrittenIsRead = (shape : Shape) (line : Line) → IsShape shape → IsAllowed shape line → line_read shape (encoding_of line) ≡ Parsed line
 
 -- a line has no other text, but for the case of its hex digits, and is allowed
 abbrev pub ReadIsWritten : Type 0
-ReadIsWritten = (shape : Shape) (text : List ℕ) (line : Line) → line_read shape text ≡ Found line → (map lower_digit text ≡ spelling_of line) × IsAllowed shape line
+ReadIsWritten = (shape : Shape) (text : List ℕ) (line : Line) → line_read shape text ≡ Parsed line
+    → (map lower_digit text ≡ encoding_of line) × IsAllowed shape line
 
 -- the names of the lines, and how many words stand behind each
 abbrev pub forms : List (List ℕ × ℕ)
-forms = (codes "open", 2) ∷ (codes "bytes", 4) ∷ (codes "close", 3) ∷ (codes "tick", 3) ∷ (codes "deliver", 1) ∷ (codes "flush", 2) ∷ (codes "lead", 1) ∷ (codes "forward", 2) ∷ (codes "crash", 1) ∷ (codes "settle", 2) ∷ []
+forms = (codes "open", 2) ∷ (codes "bytes", 4) ∷ (codes "close", 3) ∷ (codes "tick", 3) ∷ (codes "deliver", 1) ∷ (codes "flush", 2) ∷ (codes "lead", 1)
+    ∷ (codes "forward", 2) ∷ (codes "crash", 1) ∷ (codes "settle", 2) ∷ []
 
 abbrev pub is_form : List (List ℕ) → Bool
 is_form [] = false
@@ -251,5 +254,5 @@ Fails e read = read ≡ Refused e
 
 abbrev pub Gives : {L : Type 0} → Result (Option L) LineFault → Reading L → Type 0
 Gives (Ok None) read = read ≡ Skipped
-Gives (Ok (Some line)) read = read ≡ Found line
+Gives (Ok (Some line)) read = read ≡ Parsed line
 Gives (Err e) read = Fails e read

@@ -41,7 +41,8 @@ after_lines front lines (Some parted) = Some (record { before = front ++ parted.
 
 abbrev pub parted_lines : List (List ℕ) → Option Parted
 parted_lines [] = None
-parted_lines (raw ∷ more) = if bytes_eq (without_end raw) separator then Some (record { before = []; line = 1; behind = concat more }) else after_lines raw 1 (parted_lines more)
+parted_lines (raw ∷ more) =
+    if bytes_eq (without_end raw) separator then Some (record { before = []; line = 1; behind = concat more }) else after_lines raw 1 (parted_lines more)
 
 -- the parts of a text, where one of its lines is the separator
 abbrev pub parted_text : List ℕ → Option Parted

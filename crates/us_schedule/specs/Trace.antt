@@ -1,12 +1,14 @@
--- The lines of a node's trace: what each says, how it is spelled, and why a line is refused.
-use Rattle.std.specs.Prelude.{◌≡◌, ℕ, ◌^◌, ◌==◌, nat_lt, not, Bool, true, false, ◌&&◌, if◌then◌else◌, List, [], ◌∷◌, length, map, take, drop, codes, IsTrue, Result, Ok, Err, is_ok}
+-- The lines of a node's trace: what each says, how it is encoded, and why a line is refused.
+use Rattle.std.specs.Prelude.{◌≡◌, ℕ, ◌^◌, ◌==◌, nat_lt, not, Bool, true, false, ◌&&◌, if◌then◌else◌, List, [], ◌∷◌, length, map, take, drop, codes}
+use Rattle.std.specs.Prelude.{IsTrue, Result, Ok, Err, is_ok}
 use Rattle.std.specs.List.{slice_split, join_with_byte, list_any, list_all}
 use Rattle.std.specs.Str.{bytes_eq}
 use Rattle.std.specs.Fmt.{decimal}
 use Rattle.hex.specs.Hex.{encode_lower, IsBytes}
 use Rattle.us_base.specs.declared.shape.Shape.{Shape}
 use Rattle.us_base.specs.Shape.{IsShape}
-use Rattle.us_schedule.specs.Lines.{is_site, is_coord, is_actor, is_counted, is_clock, is_piece, number, hex, ◌>>=◌, within, one, two, Reading, Found, Refused, text_read, lower_digit}
+use Rattle.us_schedule.specs.Lines.{is_site, is_coord, is_actor, is_positive, is_clock, is_piece, number, hex, ◌>>=◌, within, one, two, Reading, Parsed}
+use Rattle.us_schedule.specs.Lines.{Refused, text_read, lower_digit}
 use Rattle.us_schedule.specs.declared.fault.LineFault.{LineFault}
 use Rattle.us_schedule.specs.declared.fault.LineFault.TheVariants as fault
 use Rattle.us_schedule.specs.declared.trace_line.TraceLine.{TraceLine}
@@ -25,8 +27,8 @@ is_turns n = nat_lt n (2 ^ 64)
 abbrev pub in_trace_range : Shape → TraceLine → Bool
 in_trace_range shape (Node site) = is_site shape site
 in_trace_range shape (Open coord) = is_coord shape coord
-in_trace_range shape (Bytes coord session bytes) = is_coord shape coord && (is_counted session && is_piece bytes)
-in_trace_range shape (Close coord session) = is_coord shape coord && is_counted session
+in_trace_range shape (Bytes coord session bytes) = is_coord shape coord && (is_positive session && is_piece bytes)
+in_trace_range shape (Close coord session) = is_coord shape coord && is_positive session
 in_trace_range shape (Tick actor clock) = is_actor shape actor && is_clock clock
 in_trace_range shape (Take frame) = true
 in_trace_range shape Lead = true
@@ -47,7 +49,7 @@ pub record IsAllowedTrace (shape : Shape) (line : TraceLine) : Type 0 where
   pub ranges : IsTrue (in_trace_range shape line)
   pub bytes : IsBytes (trace_bytes_of line)
 
--- ---- spelling
+-- ---- encoding
 
 -- the words of a line
 abbrev pub trace_words_of : TraceLine → List (List ℕ)
@@ -65,8 +67,8 @@ trace_words_of (Bad site) = codes "bad" ∷ decimal site ∷ []
 trace_words_of (End turns) = codes "end" ∷ decimal turns ∷ []
 
 -- the words with one space between
-abbrev pub trace_spelling_of : TraceLine → List ℕ
-trace_spelling_of line = join_with_byte 32 (trace_words_of line)
+abbrev pub trace_encoding_of : TraceLine → List ℕ
+trace_encoding_of line = join_with_byte 32 (trace_words_of line)
 
 -- ---- reading
 
@@ -122,19 +124,22 @@ trace_said shape _ = Err fault.BadWord
 abbrev pub trace_read : Shape → List ℕ → Reading TraceLine
 trace_read shape text = text_read (trace_said shape) text
 
--- ---- what is written is read, and what is read is spelled so
+-- ---- what is written is read, and what is read is encoded so
 
 -- a line that the grammar allows is read as itself
 abbrev pub TraceWrittenIsRead : Type 0
-TraceWrittenIsRead = (shape : Shape) (line : TraceLine) → IsShape shape → IsAllowedTrace shape line → trace_read shape (trace_spelling_of line) ≡ Found line
+TraceWrittenIsRead = (shape : Shape) (line : TraceLine) → IsShape shape → IsAllowedTrace shape line
+    → trace_read shape (trace_encoding_of line) ≡ Parsed line
 
 -- a line has no other text, but for the case of its hex digits, and is allowed
 abbrev pub TraceReadIsWritten : Type 0
-TraceReadIsWritten = (shape : Shape) (text : List ℕ) (line : TraceLine) → trace_read shape text ≡ Found line → (map lower_digit text ≡ trace_spelling_of line) × IsAllowedTrace shape line
+TraceReadIsWritten = (shape : Shape) (text : List ℕ) (line : TraceLine) → trace_read shape text ≡ Parsed line
+    → (map lower_digit text ≡ trace_encoding_of line) × IsAllowedTrace shape line
 
 -- the names of the lines, and how many words stand behind each
 abbrev pub trace_forms : List (List ℕ × ℕ)
-trace_forms = (codes "node", 1) ∷ (codes "open", 1) ∷ (codes "bytes", 3) ∷ (codes "close", 2) ∷ (codes "tick", 2) ∷ (codes "take", 1) ∷ (codes "lead", 0) ∷ (codes "forward", 2) ∷ (codes "lost", 1) ∷ (codes "nopoll", 0) ∷ (codes "bad", 1) ∷ (codes "end", 1) ∷ []
+trace_forms = (codes "node", 1) ∷ (codes "open", 1) ∷ (codes "bytes", 3) ∷ (codes "close", 2) ∷ (codes "tick", 2) ∷ (codes "take", 1) ∷ (codes "lead", 0)
+    ∷ (codes "forward", 2) ∷ (codes "lost", 1) ∷ (codes "nopoll", 0) ∷ (codes "bad", 1) ∷ (codes "end", 1) ∷ []
 
 abbrev pub is_trace_form : List (List ℕ) → Bool
 is_trace_form [] = false
@@ -155,4 +160,5 @@ first_trace_fault (name ∷ words) =
 
 -- a line is refused for the first that holds
 abbrev pub TraceRefusedIsFirst : Type 0
-TraceRefusedIsFirst = (shape : Shape) (text : List ℕ) (e : LineFault) → trace_read shape text ≡ Refused e → e ≡ first_trace_fault (slice_split (λ b. b == 32) text)
+TraceRefusedIsFirst = (shape : Shape) (text : List ℕ) (e : LineFault) → trace_read shape text ≡ Refused e
+    → e ≡ first_trace_fault (slice_split (λ b. b == 32) text)

@@ -1,6 +1,6 @@
 ghost use Rattle.std.specs.Prelude.{◌≡◌, nat_le, Ok, Err, if◌then◌else◌};
 ghost use Rattle.us_base.specs.Shape.{IsShape};
-ghost use Rattle.us_schedule.specs.Lines.{number_in, number, is_site, is_coord, is_actor, is_counted};
+ghost use Rattle.us_schedule.specs.Lines.{number_in, number, is_site, is_coord, is_actor, is_positive};
 
 use crate::LineFault;
 use us_base::Shape;
@@ -42,8 +42,8 @@ pub fn at_most(limit: u64, number: u64) -> Result<u64, LineFault>
 }
 
 /// The number, where it counts from 1.
-pub fn counted(number: u64) -> Result<u64, LineFault>
-    ensures { result ≡ (if is_counted number then Ok number else Err LineFault.OutOfRange) }
+pub fn positive(number: u64) -> Result<u64, LineFault>
+    ensures { result ≡ (if is_positive number then Ok number else Err LineFault.OutOfRange) }
 {
     if number == 0 {
         return Err(LineFault::OutOfRange);
@@ -56,7 +56,7 @@ pub fn site_in(shape: Shape, number: u64) -> Result<u8, LineFault>
     requires { IsShape shape }
     ensures { result ≡ (if is_site shape number then Ok number else Err LineFault.OutOfRange) }
 {
-    let number = at_most(u64::from(shape.sites()), counted(number)?)?;
+    let number = at_most(u64::from(shape.sites()), positive(number)?)?;
     Ok(number as u8)
 }
 
@@ -64,7 +64,7 @@ pub fn site_in(shape: Shape, number: u64) -> Result<u8, LineFault>
 pub fn coord_in(shape: Shape, number: u64) -> Result<u8, LineFault>
     ensures { result ≡ (if is_coord shape number then Ok number else Err LineFault.OutOfRange) }
 {
-    actor_in(shape, counted(number)?)
+    actor_in(shape, positive(number)?)
 }
 
 /// The number, where it is an actor's.

@@ -3,7 +3,7 @@ ghost use Rattle.std.specs.List.{slice_split};
 ghost use Rattle.us_base.specs.Shape.{IsShape};
 ghost use Rattle.us_schedule.specs.Lines.{Says, Gives, IsAllowed, hex, in_range, one, two, three, three_and_hex, said_by_one, said_by_two, said_by_three, said_by_four, said, line_read};
 
-use crate::numbers::{actor_in, at_most, coord_in, counted, number_of, site_in};
+use crate::numbers::{actor_in, at_most, coord_in, number_of, positive, site_in};
 use crate::{Line, LineFault};
 use hex::FromHexError;
 use std::alloc::{AllocError, Global};
@@ -164,7 +164,7 @@ fn bytes_line(
     let bytes = bytes_of(alloc, bytes)?;
     let site = site_in(shape, site)?;
     let coord = coord_in(shape, coord)?;
-    let session = counted(session)?;
+    let session = positive(session)?;
     if bytes.len() < 1 || bytes.len() > MOST_BYTES {
         return Err(LineFault::OutOfRange);
     }
@@ -197,7 +197,7 @@ fn close_line(shape: Shape, site: &[u8], coord: &[u8], session: &[u8]) -> Result
     Ok(Line::Close {
         site: site_in(shape, site)?,
         coord: coord_in(shape, coord)?,
-        session: counted(session)?,
+        session: positive(session)?,
     })
 }
 
@@ -219,7 +219,7 @@ fn deliver_line(shape: Shape, number: &[u8]) -> Result<Line, LineFault>
     ensures { result ≡ one (in_range shape) Line.Deliver number.now }
 {
     Ok(Line::Deliver {
-        number: counted(number_of(number)?)?,
+        number: positive(number_of(number)?)?,
     })
 }
 

@@ -3,7 +3,7 @@ ghost use Rattle.us_base.specs.Shape.{IsShape};
 ghost use Rattle.us_schedule.specs.Lines.{Says, Gives, one, two};
 ghost use Rattle.us_schedule.specs.Trace.{in_trace_range, IsAllowedTrace, hex_alone, two_and_hex, trace_by_none, trace_by_one, trace_by_two, trace_by_three, trace_said, trace_read};
 
-use crate::numbers::{actor_in, at_most, coord_in, counted, number_of, site_in};
+use crate::numbers::{actor_in, at_most, coord_in, number_of, positive, site_in};
 use crate::reading::{LAST_CLOCK, MOST_BYTES, bytes_of, spaces_in, words_of};
 use crate::{LineFault, TraceLine};
 use std::alloc::Global;
@@ -146,7 +146,7 @@ fn bytes_line(
     let session = number_of(session)?;
     let bytes = bytes_of(alloc, bytes)?;
     let coord = coord_in(shape, coord)?;
-    let session = counted(session)?;
+    let session = positive(session)?;
     if bytes.len() < 1 || bytes.len() > MOST_BYTES {
         return Err(LineFault::OutOfRange);
     }
@@ -164,7 +164,7 @@ fn close_line(shape: Shape, coord: &[u8], session: &[u8]) -> Result<TraceLine, L
     let session = number_of(session)?;
     Ok(TraceLine::Close {
         coord: coord_in(shape, coord)?,
-        session: counted(session)?,
+        session: positive(session)?,
     })
 }
 

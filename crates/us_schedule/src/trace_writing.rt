@@ -1,6 +1,6 @@
 ghost use Rattle.std.specs.Prelude.{◌≡◌, IfOk};
 ghost use Rattle.std.specs.String.{string_bytes};
-ghost use Rattle.us_schedule.specs.Trace.{trace_spelling_of};
+ghost use Rattle.us_schedule.specs.Trace.{trace_encoding_of};
 
 use crate::TraceLine;
 use std::alloc::{AllocError, Global};
@@ -8,13 +8,13 @@ use us_kind::Memory;
 
 /// The line's text, without an end: what `read_trace_line` reads as the line.
 pub fn write_trace_line(alloc: Global, line: &TraceLine) -> Result<Vec<u8>, Memory>
-    ensures { IfOk result (λ text. text.items ≡ trace_spelling_of line.now) }
+    ensures { IfOk result (λ text. text.items ≡ trace_encoding_of line.now) }
 {
     Ok(text_of(alloc, line)?.into_bytes())
 }
 
 fn text_of(alloc: Global, line: &TraceLine) -> Result<String, AllocError>
-    ensures { IfOk result (λ text. string_bytes text ≡ trace_spelling_of line.now) }
+    ensures { IfOk result (λ text. string_bytes text ≡ trace_encoding_of line.now) }
 {
     match line {
         TraceLine::Node { site } => format!(in alloc; "node {site}"),

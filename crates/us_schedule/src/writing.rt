@@ -1,6 +1,6 @@
 ghost use Rattle.std.specs.Prelude.{◌≡◌, IfOk};
 ghost use Rattle.std.specs.String.{string_bytes};
-ghost use Rattle.us_schedule.specs.Lines.{spelling_of};
+ghost use Rattle.us_schedule.specs.Lines.{encoding_of};
 
 use crate::Line;
 use std::alloc::{AllocError, Global};
@@ -8,13 +8,13 @@ use us_kind::Memory;
 
 /// The line's text, without an end: what `read_line` reads as the line.
 pub fn write_line(alloc: Global, line: &Line) -> Result<Vec<u8>, Memory>
-    ensures { IfOk result (λ text. text.items ≡ spelling_of line.now) }
+    ensures { IfOk result (λ text. text.items ≡ encoding_of line.now) }
 {
     Ok(text_of(alloc, line)?.into_bytes())
 }
 
 fn text_of(alloc: Global, line: &Line) -> Result<String, AllocError>
-    ensures { IfOk result (λ text. string_bytes text ≡ spelling_of line.now) }
+    ensures { IfOk result (λ text. string_bytes text ≡ encoding_of line.now) }
 {
     match line {
         Line::Open { site, coord } => format!(in alloc; "open {site} {coord}"),

@@ -13,7 +13,7 @@ use Rattle.us_kind.proofs.ListLemmas.{in_filter, filter_in}
 use Rattle.us_kind.proofs.TreeViews.{view-remove}
 use Rattle.us_kind.specs.Defaults.{key_same, key_itself, held, get-with_value, value_at-with_value}
 use Rattle.us_kind.specs.Tags.{tag_cmp, tag_cmp-total, tag_cmp-IsAntisymmetric}
-use Rattle.us_kind.specs.Words.{In}
+use Rattle.us_kind.specs.Comparison.{In}
 use Rattle.us_kind.specs.declared.identity.Tag.{Tag}
 use Rattle.us_sets.specs.Marks.{Counts, count_at, is_zero, shifted, taken}
 use Rattle.us_sets.specs.MarksLaws.{times, count_at-taken, is_zero-is, one_less}

@@ -16,7 +16,7 @@ use Rattle.std.specs.Cmp.Lexicographic.{slice_cmp, nat_list_cmp_total}
 use Rattle.std.specs.FinMap.{slice_cmp-IsAntisymmetric, nat_cmp-IsAntisymmetric}
 use Rattle.us_sets.specs.Set.{marks_of}
 use Rattle.us_sets.specs.Elements.{Elements}
-use Rattle.us_kind.specs.Words.{In}
+use Rattle.us_kind.specs.Comparison.{In}
 use Rattle.us_kind.specs.Defaults.{key_itself, key_same, with_value}
 use Rattle.us_kind.specs.Keys.{keys_where, keys_where-passes}
 use Rattle.us_sets.specs.Marks.{Counts, count_at, is_zero, is_positive, is_nothing, is_live, live_tags, shifted, taken}

@@ -2,7 +2,7 @@
 use Rattle.std.specs.Prelude.{List, Bool, true, false, Option, Some, None}
 use Rattle.std.specs.FinMap.{empty}
 use Rattle.us_kind.specs.Updates.{Update}
-use Rattle.us_kind.specs.Words.{tag_of}
+use Rattle.us_kind.specs.Comparison.{tag_of}
 use Rattle.us_kind.specs.declared.identity.Stamp.{Stamp}
 use Rattle.us_kind.specs.declared.identity.Tag.{Tag}
 use Rattle.us_sets.specs.Marks.{Counts, Move, Put, Take, moved, is_live, live_tags, is_there}

@@ -3,7 +3,7 @@ use Rattle.std.proofs.Common.{◌≡◌, List, [], ◌∷◌, Bool, true, refl, 
 use Rattle.std.specs.Prelude.{Some, None, ◌↔◌}
 use Rattle.std.specs.FinMap.{empty}
 use Rattle.us_kind.specs.Updates.{Stamped, Commutes, CountsUpdates, AnswersInOrder, WasPrepared, before, state_after, with_sums}
-use Rattle.us_kind.specs.Words.{tag_of}
+use Rattle.us_kind.specs.Comparison.{tag_of}
 use Rattle.us_kind.specs.declared.identity.Tag.{Tag}
 use Rattle.us_sets.specs.Flag.{flag_initial, flag_move, flag_updated, flag_answered, flag_prepared, flag_reads, enables, disables, flag_value}
 use Rattle.us_sets.specs.Marks.{Counts, is_live, live_tags, marks_after}
@@ -30,7 +30,8 @@ as_marks : (m : Counts) (us : List (Stamped FlagOp FlagEffect)) → state_after 
 as_marks m [] = refl
 as_marks m (u ∷ us) = as_marks (flag_updated m u.effect u.stamp) us
 
-module _ (after : Tag → Tag → Bool) (us : List (Stamped FlagOp FlagEffect)) (u : Stamped FlagOp FlagEffect) (m : Counts) (met : m ≡ marks_after flag_move empty (before after u us)) where
+module _ (after : Tag → Tag → Bool) (us : List (Stamped FlagOp FlagEffect)) (u : Stamped FlagOp FlagEffect) (m : Counts) (met : m
+    ≡ marks_after flag_move empty (before after u us)) where
   follows : (op : FlagOp) → u.op ≡ op → flag_prepared (tag_of u.stamp) op m ≡ Some u.effect → Follows flag_move enables disables after us u
   follows FlagRead e made = absurd (cc)
   follows FlagEnable e made =
@@ -40,7 +41,8 @@ module _ (after : Tag → Tag → Bool) (us : List (Stamped FlagOp FlagEffect)) 
       let effect : u.effect ≡ Disable (live_tags m) = cc in
       follows_removal flag_move enables disables after us u m met (ap flag_move effect) (ap enables e) (ap disables e)
 
-prepared_follows : (after : Tag → Tag → Bool) (us : List (Stamped FlagOp FlagEffect)) (u : Stamped FlagOp FlagEffect) → WasPrepared flag_initial flag_updated flag_prepared after us u → Follows flag_move enables disables after us u
+prepared_follows : (after : Tag → Tag → Bool) (us : List (Stamped FlagOp FlagEffect)) (u : Stamped FlagOp FlagEffect)
+    → WasPrepared flag_initial flag_updated flag_prepared after us u → Follows flag_move enables disables after us u
 prepared_follows after us u h =
     let earlier = before after u us in
     follows after us u _ (as_marks flag_initial (with_sums h.sum earlier) ∙ marks_after-with_sums flag_move h.sum flag_initial earlier) u.op refl h.effect

@@ -9,7 +9,7 @@ use Rattle.std.specs.List.{list_any}
 use Rattle.std.specs.Ordering.{int_eq}
 use Rattle.us_kind.specs.Tags.{tag_cmp, tag_code}
 use Rattle.us_kind.specs.Updates.{Update, Stamped}
-use Rattle.us_kind.specs.Words.{tag_of}
+use Rattle.us_kind.specs.Comparison.{tag_of}
 use Rattle.us_kind.specs.declared.identity.Tag.{Tag}
 use Rattle.us_kind.specs.Defaults.{changed, value_at}
 use Rattle.us_kind.specs.Keys.{keys_where}

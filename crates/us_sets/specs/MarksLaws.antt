@@ -11,11 +11,12 @@ use Rattle.us_kind.proofs.ListLemmas.{in_filter, filter_in}
 use Rattle.us_kind.specs.Histories.{any_in, in_any}
 use Rattle.us_kind.specs.Tags.{tag_cmp, tag_cmp-total, tag_cmp-IsAntisymmetric}
 use Rattle.us_kind.specs.Updates.{Update, Stamped, All, AllLater, StandsBefore, before, updates_of, update_of, with_sums}
-use Rattle.us_kind.specs.Words.{In, tag_of}
+use Rattle.us_kind.specs.Comparison.{In, tag_of}
 use Rattle.us_kind.specs.declared.identity.Tag.{Tag}
 use Rattle.us_kind.specs.Defaults.{changed-commutes, value_at-with_value, key_same, key_itself}
 use Rattle.us_kind.specs.Keys.{keys_where-passes, passes-keys_where, any-keys_where, keys_where-any}
-use Rattle.us_sets.specs.Marks.{Counts, count_at, shifted, taken, is_zero, is_positive, live_tags, is_live, Move, Put, Take, Still, moved, marks_after, is_there}
+use Rattle.us_sets.specs.Marks.{Counts, count_at, shifted, taken, is_zero, is_positive, live_tags, is_live, Move, Put, Take, Still, moved, marks_after}
+use Rattle.us_sets.specs.Marks.{is_there}
 
 -- ---- any order
 
@@ -23,7 +24,8 @@ pub is_zero-is : (n : ℤ) → is_zero n ≡ true → n ≡ pos 0
 is_zero-is n e = grind (arith, ints)
 
 shifted-shifted : (m : Counts) (s t : Tag) (a b : ℤ) → shifted (shifted m s a) t b ≡ shifted (shifted m t b) s a
-shifted-shifted m s t a b = changed-commutes tag_cmp-total tag_cmp-IsAntisymmetric (pos 0) is_zero is_zero-is m s t (λ n. n +ℤ a) (λ n. n +ℤ b) (λ n. omega (arith, ints))
+shifted-shifted m s t a b =
+    changed-commutes tag_cmp-total tag_cmp-IsAntisymmetric (pos 0) is_zero is_zero-is m s t (λ n. n +ℤ a) (λ n. n +ℤ b) (λ n. omega (arith, ints))
 
 shifted-taken : (m : Counts) (ts : List Tag) (t : Tag) (a : ℤ) → shifted (taken m ts) t a ≡ taken (shifted m t a) ts
 shifted-taken m [] t a = refl
@@ -70,8 +72,10 @@ removals : {O E : Type 0} → (E → Move) → Tag → List (Stamped O E) → �
 removals move t [] = 0
 removals move t (u ∷ us) = times t (tags_of (move u.effect)) + removals move t us
 
-pub count_at-shifted : (m : Counts) (s : Tag) (a : ℤ) (t : Tag) → count_at (shifted m s a) t ≡ cond (eq_by_cmp tag_cmp t s) (count_at m t +ℤ a) (count_at m t)
-count_at-shifted m s a t = value_at-with_value tag_cmp-total tag_cmp-IsAntisymmetric (pos 0) is_zero is_zero-is m s (count_at m s +ℤ a) t ∙ on (eq_by_cmp tag_cmp t s) refl
+pub count_at-shifted : (m : Counts) (s : Tag) (a : ℤ) (t : Tag)
+    → count_at (shifted m s a) t ≡ cond (eq_by_cmp tag_cmp t s) (count_at m t +ℤ a) (count_at m t)
+count_at-shifted m s a t = value_at-with_value tag_cmp-total tag_cmp-IsAntisymmetric (pos 0) is_zero is_zero-is m s (count_at m s +ℤ a) t
+    ∙ on (eq_by_cmp tag_cmp t s) refl
   where
     on : (b : Bool) → eq_by_cmp tag_cmp t s ≡ b → cond b (count_at m s +ℤ a) (count_at m t) ≡ cond b (count_at m t +ℤ a) (count_at m t)
     on true e = ap (λ k. count_at m k +ℤ a) (sym (key_same tag_cmp-total tag_cmp-IsAntisymmetric t s e))
@@ -85,9 +89,11 @@ pub count_at-taken : (m : Counts) (ts : List Tag) (t : Tag) → count_at (taken 
 unfolding times
 count_at-taken m [] t = omega (arith, ints)
 count_at-taken m (s ∷ ss) t =
-    count_at-taken (shifted m s (negsuc 0)) ss t ∙ ap (λ n. n -ℤ pos (times t ss)) (count_at-shifted m s (negsuc 0) t) ∙ one_less (eq_by_cmp tag_cmp t s) (count_at m t) (times t ss)
+    count_at-taken (shifted m s (negsuc 0)) ss t ∙ ap (λ n. n -ℤ pos (times t ss)) (count_at-shifted m s (negsuc 0) t)
+    ∙ one_less (eq_by_cmp tag_cmp t s) (count_at m t) (times t ss)
 
-count_at-moved : (m : Counts) (a : Move) (s t : Tag) → count_at (moved m a s) t ≡ ((count_at m t +ℤ pos (cond (puts a && eq_by_cmp tag_cmp t s) 1 0)) -ℤ pos (times t (tags_of a)))
+count_at-moved : (m : Counts) (a : Move) (s t : Tag)
+    → count_at (moved m a s) t ≡ ((count_at m t +ℤ pos (cond (puts a && eq_by_cmp tag_cmp t s) 1 0)) -ℤ pos (times t (tags_of a)))
 unfolding times
 count_at-moved m Put s t = count_at-shifted m s (pos 1) t ∙ on (eq_by_cmp tag_cmp t s)
   where
@@ -110,7 +116,8 @@ count_at-after move m (u ∷ us) t =
     ∙ add_counts (count_at m t) _ _ _ _
 
 -- the sums of stamps don't count
-pub marks_after-with_sums : {O E : Type 0} (move : E → Move) (sum : Stamped O E → ℕ) (m : Counts) (us : List (Stamped O E)) → marks_after move m (with_sums sum us) ≡ marks_after move m us
+pub marks_after-with_sums : {O E : Type 0} (move : E → Move) (sum : Stamped O E → ℕ) (m : Counts) (us : List (Stamped O E))
+    → marks_after move m (with_sums sum us) ≡ marks_after move m us
 marks_after-with_sums move sum m [] = refl
 marks_after-with_sums move sum m (u ∷ us) = marks_after-with_sums move sum (moved m (move u.effect) (tag_of u.stamp)) us
 
@@ -151,8 +158,10 @@ additions_in {O} {E} move t (u ∷ us) h = on (puts (move u.effect)) (eq_by_cmp 
     later : AddsIn move t us → AddsIn move t (u ∷ us)
     later a = record { update = a.update; here = inr a.here; adds = a.adds }
 
-    on : (a b : Bool) → puts (move u.effect) ≡ a → eq_by_cmp tag_cmp t (tag_of u.stamp) ≡ b → 1 ≤ cond (a && b) 1 0 + additions move t us → (1 ≤ additions move t us → AddsIn move t us) → AddsIn move t (u ∷ us)
-    on true true ea eb h again = record { update = u; here = inl refl; adds = record { puts = ea; tag = sym (key_same tag_cmp-total tag_cmp-IsAntisymmetric t _ eb) } }
+    on : (a b : Bool) → puts (move u.effect) ≡ a → eq_by_cmp tag_cmp t (tag_of u.stamp) ≡ b → 1 ≤ cond (a && b) 1 0 + additions move t us
+        → (1 ≤ additions move t us → AddsIn move t us) → AddsIn move t (u ∷ us)
+    on true true ea eb h again =
+        record { update = u; here = inl refl; adds = record { puts = ea; tag = sym (key_same tag_cmp-total tag_cmp-IsAntisymmetric t _ eb) } }
     on true false ea eb h again = later (again (omega arith))
     on false b ea eb h again = later (again (omega arith))
 
@@ -162,7 +171,8 @@ in_additions move t [] u i a = absurd i
 in_additions move t (v ∷ us) u (inl e) a =
     let put : puts (move v.effect) ≡ true = ap (λ (w : Stamped _ _). puts (move w.effect)) e ∙ a.puts in
     let tag : tag_of v.stamp ≡ t = ap (λ (w : Stamped _ _). tag_of w.stamp) e ∙ a.tag in
-    let tie : eq_by_cmp tag_cmp t (tag_of v.stamp) ≡ true = subst (λ k. eq_by_cmp tag_cmp k (tag_of v.stamp) ≡ true) tag (key_itself tag_cmp-total (tag_of v.stamp)) in
+    let tie : eq_by_cmp tag_cmp t (tag_of v.stamp)
+    ≡ true = subst (λ k. eq_by_cmp tag_cmp k (tag_of v.stamp) ≡ true) tag (key_itself tag_cmp-total (tag_of v.stamp)) in
     let both : (puts (move v.effect) && eq_by_cmp tag_cmp t (tag_of v.stamp)) ≡ true = rw (put, tie) refl in
     subst (λ b. 1 ≤ cond b 1 0 + additions move t us) (sym both) (omega arith)
 in_additions move t (v ∷ us) u (inr i) a = let h = in_additions move t us u i a in omega arith
@@ -178,11 +188,13 @@ unfolding removals
 removals_in move t [] h = absurd (omega arith)
 removals_in move t (u ∷ us) h = on (times t (tags_of (move u.effect))) refl h (removals_in move t us)
   where
-    on : (n : ℕ) → times t (tags_of (move u.effect)) ≡ n → 1 ≤ n + removals move t us → (1 ≤ removals move t us → TakesIn move t us) → TakesIn move t (u ∷ us)
+    on : (n : ℕ) → times t (tags_of (move u.effect)) ≡ n → 1 ≤ n + removals move t us → (1 ≤ removals move t us → TakesIn move t us)
+        → TakesIn move t (u ∷ us)
     on zero e h again = let a = again (omega arith) in record { update = a.update; here = inr a.here; takes = a.takes }
     on (suc n) e h again = record { update = u; here = inl refl; takes = times_in t _ (omega arith) }
 
-in_removals : {O E : Type 0} (move : E → Move) (t : Tag) (us : List (Stamped O E)) (v : Stamped O E) → In v us → In t (tags_of (move v.effect)) → 1 ≤ removals move t us
+in_removals : {O E : Type 0} (move : E → Move) (t : Tag) (us : List (Stamped O E)) (v : Stamped O E) → In v us → In t (tags_of (move v.effect))
+    → 1 ≤ removals move t us
 unfolding removals
 in_removals move t [] v i h = absurd i
 in_removals move t (u ∷ us) v (inl e) h =
@@ -197,7 +209,8 @@ none_adds move u (v ∷ us) apart =
     let rest = none_adds move u us apart.1 in
     on (puts (move v.effect)) (eq_by_cmp tag_cmp (tag_of u.stamp) (tag_of v.stamp)) refl rest
   where
-    on : (a b : Bool) → eq_by_cmp tag_cmp (tag_of u.stamp) (tag_of v.stamp) ≡ b → additions move (tag_of u.stamp) us ≡ 0 → cond (a && b) 1 0 + additions move (tag_of u.stamp) us ≡ 0
+    on : (a b : Bool) → eq_by_cmp tag_cmp (tag_of u.stamp) (tag_of v.stamp) ≡ b → additions move (tag_of u.stamp) us ≡ 0
+        → cond (a && b) 1 0 + additions move (tag_of u.stamp) us ≡ 0
     on true true e rest = absurd (apart.0.apart (key_same tag_cmp-total tag_cmp-IsAntisymmetric _ _ e))
     on true false e rest = omega arith
     on false b e rest = omega arith
@@ -210,9 +223,11 @@ at_most_one move t (u ∷ us) order =
     let none = none_adds move u us order.0 in
     on (puts (move u.effect)) (eq_by_cmp tag_cmp t (tag_of u.stamp)) refl rest none
   where
-    on : (a b : Bool) → eq_by_cmp tag_cmp t (tag_of u.stamp) ≡ b → additions move t us ≤ 1 → additions move (tag_of u.stamp) us ≡ 0 → cond (a && b) 1 0 + additions move t us ≤ 1
+    on : (a b : Bool) → eq_by_cmp tag_cmp t (tag_of u.stamp) ≡ b → additions move t us ≤ 1 → additions move (tag_of u.stamp) us ≡ 0
+        → cond (a && b) 1 0 + additions move t us ≤ 1
     on true true e rest none =
-        let same : additions move t us ≡ 0 = subst (λ k. additions move k us ≡ 0) (sym (key_same tag_cmp-total tag_cmp-IsAntisymmetric _ _ e)) none in omega arith
+        let same : additions move t us
+        ≡ 0 = subst (λ k. additions move k us ≡ 0) (sym (key_same tag_cmp-total tag_cmp-IsAntisymmetric _ _ e)) none in omega arith
     on true false e rest none = omega arith
     on false b e rest none = omega arith
 
@@ -221,8 +236,10 @@ at_most_one move t (u ∷ us) order =
 -- what an effect does is what its operation asks, at the counts of the updates that it is after
 pub record Follows {O E : Type 0} (move : E → Move) (adds removes : O → Bool) (after : Tag → Tag → Bool) (us : List (Stamped O E)) (u : Stamped O E) : Type 0 where
   pub adding : puts (move u.effect) ≡ adds u.op
-  pub taking : (t : Tag) → In t (tags_of (move u.effect)) → (removes u.op ≡ true) × (is_positive (count_at (marks_after move empty (before after u us)) t) ≡ true)
-  pub takes : removes u.op ≡ true → (t : Tag) → is_positive (count_at (marks_after move empty (before after u us)) t) ≡ true → In t (tags_of (move u.effect))
+  pub taking : (t : Tag) → In t (tags_of (move u.effect))
+      → (removes u.op ≡ true) × (is_positive (count_at (marks_after move empty (before after u us)) t) ≡ true)
+  pub takes : removes u.op ≡ true → (t : Tag) → is_positive (count_at (marks_after move empty (before after u us)) t) ≡ true
+      → In t (tags_of (move u.effect))
 
 positive : (n : ℤ) (a r : ℕ) → n ≡ ((pos 0 +ℤ pos a) -ℤ pos r) → 1 ≤ a → r ≡ 0 → is_positive n ≡ true
 positive n a r e h k = grind (arith, ints)
@@ -231,8 +248,10 @@ more_added : (n : ℤ) (a r : ℕ) → n ≡ ((pos 0 +ℤ pos a) -ℤ pos r) →
 more_added n a r e h = grind (arith, ints)
 
 -- the count at a tag, from nothing
-count_at-all : {O E : Type 0} (move : E → Move) (us : List (Stamped O E)) (t : Tag) → count_at (marks_after move empty us) t ≡ ((pos 0 +ℤ pos (additions move t us)) -ℤ pos (removals move t us))
-count_at-all move us t = count_at-after move empty us t ∙ ap (λ r. (unwrap_or r (pos 0) +ℤ pos (additions move t us)) -ℤ pos (removals move t us)) (get-empty tag_cmp t)
+count_at-all : {O E : Type 0} (move : E → Move) (us : List (Stamped O E)) (t : Tag)
+    → count_at (marks_after move empty us) t ≡ ((pos 0 +ℤ pos (additions move t us)) -ℤ pos (removals move t us))
+count_at-all move us t = count_at-after move empty us t
+    ∙ ap (λ r. (unwrap_or r (pos 0) +ℤ pos (additions move t us)) -ℤ pos (removals move t us)) (get-empty tag_cmp t)
 
 not_true : (b : Bool) → (b ≡ true → ⊥) → not b ≡ true
 not_true true h = absurd (h refl)
@@ -255,8 +274,8 @@ module _ {O E : Type 0} (move : E → Move) (adds removes : O → Bool) (after :
   after_taken : (v : Stamped O E) → In v us → (t : Tag) → In t (tags_of (move v.effect)) → (removes v.op ≡ true) × (after (tag_of v.stamp) t ≡ true)
   after_taken v i t stands =
       let live = (follows v i).taking t stands in
-      let counted = count_at-all move (before after v us) t in
-      let more : removals move t (before after v us) + 1 ≤ additions move t (before after v us) = more_added _ _ _ counted live.1 in
+      let update_count = count_at-all move (before after v us) t in
+      let more : removals move t (before after v us) + 1 ≤ additions move t (before after v us) = more_added _ _ _ update_count live.1 in
       let added = additions_in move t (before after v us) (omega arith) in
       let found = in_filter (λ w. after (tag_of v.stamp) (tag_of w.stamp)) added.update us added.here in
       (live.0, subst (λ k. after (tag_of v.stamp) k ≡ true) added.adds.tag found.1)
@@ -336,7 +355,8 @@ module _ {O E : Type 0} (move : E → Move) (adds removes : O → Bool) (after :
     takes = λ h. absurd (true≢false (sym h ∙ r));
   }
 
-  pub follows_removal : (m : Counts) → m ≡ marks_after move empty (before after u us) → move u.effect ≡ Take (live_tags m) → adds u.op ≡ false → removes u.op ≡ true → Follows move adds removes after us u
+  pub follows_removal : (m : Counts) → m ≡ marks_after move empty (before after u us) → move u.effect ≡ Take (live_tags m) → adds u.op ≡ false
+      → removes u.op ≡ true → Follows move adds removes after us u
   follows_removal m met e a r = record {
     adding = ap puts e ∙ sym a;
     taking = λ t i. (

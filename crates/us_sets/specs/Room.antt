@@ -1,7 +1,7 @@
 -- Room for the counts that a removal lowers, so that the removal itself can't fail.
 use Rattle.std.specs.Prelude.{◌≡◌, ◌^◌, ◌-◌, ℤ, pos, negsuc, ◌+ℤ◌, ◌≤ℤ◌, List, [], ◌∷◌, true, false, filter, not, if◌then◌else◌}
 use Rattle.std.specs.FinMap.{contains_key, insert, remove}
-use Rattle.us_kind.specs.Words.{In}
+use Rattle.us_kind.specs.Comparison.{In}
 use Rattle.us_kind.specs.declared.identity.Tag.{Tag}
 use Rattle.us_sets.specs.Marks.{Counts, count_at, is_zero}
 

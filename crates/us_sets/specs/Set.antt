@@ -2,7 +2,7 @@
 use Rattle.std.specs.Prelude.{ℕ, List, Bool, true, false, Option, Some, None, filter, filter_map}
 use Rattle.std.specs.FinMap.{empty, entries}
 use Rattle.us_kind.specs.Updates.{Update}
-use Rattle.us_kind.specs.Words.{bytes_eq, ascending, tag_of}
+use Rattle.us_kind.specs.Comparison.{bytes_eq, ascending, tag_of}
 use Rattle.us_kind.specs.declared.identity.Stamp.{Stamp}
 use Rattle.us_kind.specs.declared.identity.Tag.{Tag}
 use Rattle.us_kind.specs.Defaults.{changed, value_at}

@@ -12,15 +12,17 @@ use Rattle.us_kind.proofs.TestLemmas.{bytes_eq-true}
 use Rattle.us_kind.specs.Ascending.{ascending-rises, ascending_in, in_ascending, rises_same}
 use Rattle.us_kind.specs.Histories.{in_any}
 use Rattle.us_kind.specs.Updates.{Stamped, Commutes, CountsUpdates, AnswersInOrder, WasPrepared, IsHistory, before, state_after, updates_of, with_sums}
-use Rattle.us_kind.specs.Words.{In, ascending, bytes_eq, tag_of}
+use Rattle.us_kind.specs.Comparison.{In, ascending, bytes_eq, tag_of}
 use Rattle.us_kind.specs.declared.identity.Stamp.{Stamp}
 use Rattle.us_kind.specs.declared.identity.Tag.{Tag}
 use Rattle.us_kind.specs.Defaults.{changed-commutes, value_at-with_value, key_same, key_itself}
 use Rattle.us_sets.specs.Elements.{Elements}
 use Rattle.us_kind.specs.Keys.{keys_where, keys_where-passes, passes-keys_where, keys_where-rises}
 use Rattle.us_sets.specs.Marks.{Counts, Move, Put, Take, Still, is_nothing, is_live, live_tags, moved, marks_after}
-use Rattle.us_sets.specs.MarksLaws.{Follows, is_live-empty, moved-commutes, marks_after-with_sums, is_live-marks_after, follows_addition, follows_nothing, follows_removal}
-use Rattle.us_sets.specs.Set.{marks_of, set_initial, element_of, move_of, set_updated, set_answered, set_prepared, set_reads, adds, removes, added, is_member, set_value}
+use Rattle.us_sets.specs.MarksLaws.{Follows, is_live-empty, moved-commutes, marks_after-with_sums, is_live-marks_after, follows_addition, follows_nothing}
+use Rattle.us_sets.specs.MarksLaws.{follows_removal}
+use Rattle.us_sets.specs.Set.{marks_of, set_initial, element_of, move_of, set_updated, set_answered, set_prepared, set_reads, adds, removes, added}
+use Rattle.us_sets.specs.Set.{is_member, set_value}
 use Rattle.us_sets.specs.declared.set.SetOp.{SetOp}
 use Rattle.us_sets.specs.declared.set.SetOp.TheVariants.{SetMembers, SetContains, SetAdd, SetRemove}
 use Rattle.us_sets.specs.declared.set.SetEffect.{SetEffect}
@@ -68,18 +70,21 @@ marks_of-updated s e m x =
     ∙ ap (λ b. cond b (moved (marks_of s (element_of e)) (move_of e) (tag_of m)) (marks_of s x)) (same_bytes x (element_of e))
     ∙ on (bytes_eq x (element_of e)) refl
   where
-    on : (b : Bool) → bytes_eq x (element_of e) ≡ b → cond b (moved (marks_of s (element_of e)) (move_of e) (tag_of m)) (marks_of s x) ≡ moved (marks_of s x) (cond b (move_of e) Still) (tag_of m)
+    on : (b : Bool) → bytes_eq x (element_of e) ≡ b
+        → cond b (moved (marks_of s (element_of e)) (move_of e) (tag_of m)) (marks_of s x) ≡ moved (marks_of s x) (cond b (move_of e) Still) (tag_of m)
     on true t = ap (λ y. moved (marks_of s y) (move_of e) (tag_of m)) (sym (bytes_eq-true x (element_of e) t))
     on false t = refl
 
-as_marks : (x : List ℕ) (s : Elements) (us : List (Stamped SetOp SetEffect)) → marks_of (state_after set_updated s us) x ≡ marks_after (moves x) (marks_of s x) us
+as_marks : (x : List ℕ) (s : Elements) (us : List (Stamped SetOp SetEffect))
+    → marks_of (state_after set_updated s us) x ≡ marks_after (moves x) (marks_of s x) us
 as_marks x s [] = refl
 as_marks x s (u ∷ us) = as_marks x (set_updated s u.effect u.stamp) us ∙ ap (λ m. marks_after (moves x) m us) (marks_of-updated s u.effect u.stamp x)
 
 marks_of-initial : (x : List ℕ) → marks_of set_initial x ≡ empty
 marks_of-initial x = ap (λ r. unwrap_or r empty) (get-empty (slice_cmp nat_cmp) x)
 
-module _ (after : Tag → Tag → Bool) (us : List (Stamped SetOp SetEffect)) (x : List ℕ) (u : Stamped SetOp SetEffect) (s : Elements) (met : (y : List ℕ) → marks_of s y ≡ marks_after (moves y) empty (before after u us)) where
+module _ (after : Tag → Tag → Bool) (us : List (Stamped SetOp SetEffect)) (x : List ℕ) (u : Stamped SetOp SetEffect) (s : Elements) (met : (y : List ℕ) → marks_of s y
+    ≡ marks_after (moves y) empty (before after u us)) where
   follows : (op : SetOp) → u.op ≡ op → set_prepared (tag_of u.stamp) op s ≡ Some u.effect → Follows (moves x) (adds x) (removes x) after us u
   follows SetMembers e made = absurd (cc)
   follows (SetContains y) e made = absurd (cc)
@@ -89,8 +94,10 @@ module _ (after : Tag → Tag → Bool) (us : List (Stamped SetOp SetEffect)) (x
       effect = cc
 
       on : (b : Bool) → bytes_eq x y ≡ b → Follows (moves x) (adds x) (removes x) after us u
-      on true t = follows_addition (moves x) (adds x) (removes x) after us u (ap (moves x) effect ∙ ap (λ b. cond b Put Still) t) (ap (adds x) e ∙ t) (ap (removes x) e)
-      on false t = follows_nothing (moves x) (adds x) (removes x) after us u (ap (moves x) effect ∙ ap (λ b. cond b Put Still) t) (ap (adds x) e ∙ t) (ap (removes x) e)
+      on true t = follows_addition (moves x) (adds x) (removes x) after us u (ap (moves x) effect ∙ ap (λ b. cond b Put Still) t) (ap (adds x) e
+          ∙ t) (ap (removes x) e)
+      on false t = follows_nothing (moves x) (adds x) (removes x) after us u (ap (moves x) effect ∙ ap (λ b. cond b Put Still) t) (ap (adds x) e
+          ∙ t) (ap (removes x) e)
   follows (SetRemove y) e made = on (bytes_eq x y) refl
     where
       effect : u.effect ≡ Removed y (live_tags (marks_of s y))
@@ -101,13 +108,16 @@ module _ (after : Tag → Tag → Bool) (us : List (Stamped SetOp SetEffect)) (x
           let same = bytes_eq-true x y t in
           follows_removal (moves x) (adds x) (removes x) after us u (marks_of s y) (ap (marks_of s) (sym same) ∙ met x)
           (ap (moves x) effect ∙ ap (λ b. cond b (Take (live_tags (marks_of s y))) Still) t) (ap (adds x) e) (ap (removes x) e ∙ t)
-      on false t = follows_nothing (moves x) (adds x) (removes x) after us u (ap (moves x) effect ∙ ap (λ b. cond b (Take (live_tags (marks_of s y))) Still) t) (ap (adds x) e) (ap (removes x) e ∙ t)
+      on false t = follows_nothing (moves x) (adds x) (removes x) after us u (ap (moves x) effect
+          ∙ ap (λ b. cond b (Take (live_tags (marks_of s y))) Still) t) (ap (adds x) e) (ap (removes x) e ∙ t)
 
-prepared_follows : (after : Tag → Tag → Bool) (us : List (Stamped SetOp SetEffect)) (x : List ℕ) (u : Stamped SetOp SetEffect) → WasPrepared set_initial set_updated set_prepared after us u → Follows (moves x) (adds x) (removes x) after us u
+prepared_follows : (after : Tag → Tag → Bool) (us : List (Stamped SetOp SetEffect)) (x : List ℕ) (u : Stamped SetOp SetEffect)
+    → WasPrepared set_initial set_updated set_prepared after us u → Follows (moves x) (adds x) (removes x) after us u
 prepared_follows after us x u h =
     let earlier = before after u us in
     follows after us x u (state_after set_updated set_initial (with_sums h.sum earlier))
-    (λ y. as_marks y set_initial (with_sums h.sum earlier) ∙ marks_after-with_sums (moves y) h.sum (marks_of set_initial y) earlier ∙ ap (λ m. marks_after (moves y) m earlier) (marks_of-initial y))
+    (λ y. as_marks y set_initial (with_sums h.sum earlier) ∙ marks_after-with_sums (moves y) h.sum (marks_of set_initial y) earlier
+    ∙ ap (λ m. marks_after (moves y) m earlier) (marks_of-initial y))
     u.op refl h.effect
 
 -- an element's marks say whether it is a member
@@ -119,7 +129,8 @@ is_live-member after us history x =
 
 -- ---- the members
 
-in_added : (us : List (Stamped SetOp SetEffect)) (u : Stamped SetOp SetEffect) (x : List ℕ) → In u us → added u.op ≡ Some x → In x (filter_map (λ v. added v.op) (updates_of us))
+in_added : (us : List (Stamped SetOp SetEffect)) (u : Stamped SetOp SetEffect) (x : List ℕ) → In u us → added u.op ≡ Some x
+    → In x (filter_map (λ v. added v.op) (updates_of us))
 in_added [] u x i e = absurd i
 in_added (v ∷ us) u x (inl same) e = rw (ap (λ (w : Stamped _ _). added w.op) same ∙ e) (inl refl)
 in_added (v ∷ us) u x (inr i) e = on (added v.op) (in_added us u x i e)
@@ -135,13 +146,15 @@ adds_added x (SetAdd y) e = ap Some (sym (bytes_eq-true x y e))
 adds_added x (SetRemove y) e = absurd (true≢false (sym e))
 
 -- a member was added
-member_added : (after : Tag → Tag → Bool) (us : List (Stamped SetOp SetEffect)) (x : List ℕ) → is_member (updates_of us) after x ≡ true → In x (filter_map (λ v. added v.op) (updates_of us))
+member_added : (after : Tag → Tag → Bool) (us : List (Stamped SetOp SetEffect)) (x : List ℕ) → is_member (updates_of us) after x ≡ true
+    → In x (filter_map (λ v. added v.op) (updates_of us))
 member_added after us x h =
     let found = in_any (λ u. adds x u.op && not (list_any (λ v. removes x v.op && after v.tag u.tag) (updates_of us))) us h in
     in_added us found.0 x found.1 (adds_added x (found.0).op (and_parts _ _ found.2).0)
 
 members : (after : Tag → Tag → Bool) (us : List (Stamped SetOp SetEffect)) → IsHistory set_initial set_updated set_prepared after us
-    → keys_where is_live (entries (state_after set_updated set_initial us)) ≡ ascending (filter (is_member (updates_of us) after) (filter_map (λ v. added v.op) (updates_of us)))
+    → keys_where is_live (entries (state_after set_updated set_initial us))
+    ≡ ascending (filter (is_member (updates_of us) after) (filter_map (λ v. added v.op) (updates_of us)))
 members after us history =
     let s = state_after set_updated set_initial us in
     let all = filter_map (λ v. added v.op) (updates_of us) in

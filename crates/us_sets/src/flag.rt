@@ -49,7 +49,7 @@ impl Replicated for EnableWinsFlag {
 
     ghost is_reading = { flag_reads };
 
-    ghost counted = { λ _. 0 };
+    ghost update_count = { λ _. 0 };
 
     ghost value = { flag_value };
 

@@ -1,7 +1,7 @@
 ghost use Rattle.std.specs.Prelude.{◌≡◌, ◌+ℤ◌, ◌≤ℤ◌, ◌++◌, ◌∷◌, [], ◌-◌, ◌^◌, ◌≤◌, length, pos, negsuc, true, OnOk, OnErr, IfOk};
 ghost use Rattle.us_sets.specs.Marks.{is_zero};
 
-use std::alloc::Global;
+use std::alloc::{AllocError, Global};
 use std::collections::BTreeMap;
 use std::marker::Model;
 use us_kind::{Items, Memory, Tag};
@@ -17,7 +17,7 @@ fn is_zero(count: i64) -> bool
     count == 0
 }
 
-/// A count that no longer fits is answered as want of memory.
+/// A count that no longer fits is answered as out of memory.
 fn sum(count: i64, by: i64) -> Result<i64, Memory>
     ensures { IfOk result (λ n. n ≡ (count +ℤ by)) }
 {
@@ -103,7 +103,7 @@ impl Marks {
     }
 
     /// Adds a tag to the list, unless a count is kept at it. A count so low that it could leave its type is answered
-    /// as want of memory.
+    /// as out of memory.
     fn note(&self, tag: Tag, absent: &mut Items<Tag>) -> Result<(), Memory>
         ensures noted { OnOk result (absent.new ≡ absent.old ++ missing self.now (tag ∷ [])) }
         ensures high { OnOk result (IsHigh (count_at self.now tag)) }
@@ -223,6 +223,16 @@ impl Marks {
     pub fn copy(&self) -> Result<Marks, Memory>
         ensures { IfOk result (λ copy. copy ≡ self.now) }
     {
+        Ok(Marks {
+            counts: self.counts.clone()?,
+        })
+    }
+}
+
+impl Clone for Marks {
+    ghost is_clone = { λ a b. b ≡ a };
+
+    fn clone(&self) -> Result<Marks, AllocError> {
         Ok(Marks {
             counts: self.counts.clone()?,
         })

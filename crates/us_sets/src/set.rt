@@ -168,6 +168,14 @@ impl SetState {
         change_marks(alloc, &mut marks, effect, tag)?;
         self.keep(effect.value(), marks)
     }
+
+    pub fn copy(&self) -> Result<SetState, Memory>
+        ensures { IfOk result (λ copy. copy ≡ self.now) }
+    {
+        Ok(SetState {
+            elements: self.elements.clone()?,
+        })
+    }
 }
 
 /// What an effect does to the marks of its element.
@@ -211,7 +219,7 @@ impl Replicated for AddWinsSet {
 
     ghost is_reading = { set_reads };
 
-    ghost counted = { λ _. 0 };
+    ghost update_count = { λ _. 0 };
 
     ghost value = { set_value };
 

@@ -1,9 +1,3 @@
-pub mod Written
-pub mod Posts
-pub mod EachSession
-pub mod Lengths
 pub mod LogPlaces
 pub mod Loops
 pub mod Partitions
-pub mod Spelled
-pub mod Turns

@@ -59,7 +59,7 @@ impl Log {
         places_under(&self.places, item)
     }
 
-    /// Adds a transaction at the end. After want of memory the log is empty.
+    /// Adds a transaction at the end. After a failed allocation the log is empty.
     pub fn push(&mut self, transaction: LogTx) -> Result<(), Memory>
         ensures ok { OnOk result (self.new ≡ self.old ++ transaction ∷ []) }
         ensures err { OnErr result (self.new ≡ []) }

@@ -27,7 +27,7 @@ pub struct Part {
     log: Log,
     prepared: Vec<PreparedTx>,
     done: Listed<Tid>,
-    got: Vector,
+    received: Vector,
     parked: Vec<Get>,
 }
 
@@ -36,19 +36,19 @@ impl Model for Part {
 
     ghost Value = { Partition };
 
-    ghost view = { λ a. record { clock = a.clock; log = a.log; prepared = a.prepared.items; done = a.done; got = a.got; parked = a.parked.items } };
+    ghost view = { λ a. record { clock = a.clock; log = a.log; prepared = a.prepared.items; done = a.done; received = a.received; parked = a.parked.items } };
 }
 
 impl Part {
     pub fn new(alloc: Global) -> Part
-        ensures { result ≡ record { clock = 0; log = []; prepared = []; done = []; got = zero; parked = [] } }
+        ensures { result ≡ record { clock = 0; log = []; prepared = []; done = []; received = zero; parked = [] } }
     {
         Part {
             clock: 0,
             log: Log::new(alloc),
             prepared: Vec::new(alloc),
             done: Listed::new(alloc),
-            got: Vector::zero(),
+            received: Vector::zero(),
             parked: Vec::new(alloc),
         }
     }
@@ -58,7 +58,7 @@ impl Part {
         requires { me.now.site < 10 }
         ensures { result ≡ known me.now self.now }
     {
-        self.got.with_entry(me.site, own_known_of(self.clock, self.prepared.as_slice()))
+        self.received.with_entry(me.site, own_known_of(self.clock, self.prepared.as_slice()))
     }
 
     /// A question comes, and waits.

@@ -5,7 +5,6 @@ ghost use Rattle.us_value.specs.Values.{answered, prepared, updated};
 ghost use Rattle.us_history.specs.States.{after_writes, after_log, after_own};
 ghost use Rattle.us_model.specs.Partitions.{state_for, is_too_long, form_for, version_for, versions};
 
-use crate::codec::MOST_ANSWER;
 use crate::log::Log;
 use std::alloc::Global;
 use us_base::{Limits, Vector};
@@ -19,8 +18,11 @@ use us_value::{
 /// The sum under which a transaction's own effects count: above every other.
 const OWN_SUM: u128 = u128::MAX;
 
-/// How many bytes the writes of a transaction are spelled in at most.
-pub const MOST_WRITES: usize = Limits::WRITES;
+/// How many bytes an answer is encoded in at most.
+const MOST_ANSWER: usize = Limits::ANSWER;
+
+/// How many bytes the writes of a transaction are encoded in at most.
+const MOST_WRITES: usize = Limits::WRITES;
 
 /// The versions for the questions whose snapshot is known.
 pub fn push_versions(
@@ -125,7 +127,7 @@ fn effect_at(alloc: Global, state: &State, op: &Op, tag: Tag) -> Result<Option<E
 const UPDATES: u64 = 1 << 60;
 
 /// Makes an effect part of a state. One of another kind changes nothing, as above. A counter that takes no more updates
-/// counts as want of memory: none is met, since a site takes fewer than 2^48 events (docs/DECISIONS.md).
+/// counts as out of memory: none is met, since a site takes fewer than 2^48 events (docs/DECISIONS.md).
 fn apply_effect(
     alloc: Global,
     state: &mut State,
@@ -134,7 +136,7 @@ fn apply_effect(
 ) -> Result<(), Memory>
     ensures { OnOk result (state.new ≡ updated state.old effect.now stamp) }
 {
-    if state.counted() >= UPDATES {
+    if state.update_count() >= UPDATES {
         return Err(Memory);
     }
     match us_value::apply(alloc, state, effect, stamp) {

@@ -1,25 +1,18 @@
 //! A partition and the coordinator of the same number take events.
 ghost use Rattle.std.specs.Prelude.{◌≡◌, ◌<◌, ◌++◌, ◌∷◌, [], ◌==◌, true, IfOk, OnOk, Some, None};
-ghost use Rattle.us_model.specs.Sites.{new_shard, new_session, opened, open_in, all_sessions, take_message, op_is_of, effect_is_of, own_are_of, writes_fit, message_fits, is_partition, is_for, take_event, wake, no_outputs};
+ghost use Rattle.us_model.specs.Coordinators.{open_in, waits_in};
+ghost use Rattle.us_model.specs.Sites.{new_shard, view_of, take_message, op_is_of, effect_is_of, own_are_of, writes_fit, message_fits};
+ghost use Rattle.us_model.specs.Sites.{is_partition, is_for, take_event, wake, no_outputs};
 ghost use Rattle.us_base.specs.Shape.{IsShape};
-ghost use Rattle.us_client_wire.specs.Replies.{reply_spelling};
-ghost use Rattle.us_model.specs.Worlds.{waits_in};
-ghost use Rattle.us_site.specs.Steps.{acts};
 
-use crate::codec::spelled;
-use crate::coordinator::{Turn, each};
 use crate::partition::Part;
-use crate::session::{TOO_MANY_SESSIONS, after, new_stream};
-use crate::waits::put_waits_in;
 use std::alloc::Global;
 use std::marker::Model;
 use us_base::{Shape, Vector};
-use us_client_wire::Reply;
+use us_coord::{Coordinator, refuse_open};
 use us_exec::WaitingRequest;
 use us_kind::{Items, Memory, Tid};
-use us_model::{
-    ClientOut, Desk, Event, Get, Note, Outputs, PreparedAt, Session, Settings, Waiting,
-};
+use us_model::{Event, Get, Outputs, Settings, View, Vote};
 use us_peer_wire::{Actor, Message, Packet};
 use us_value::{Catalog, Effect, Kind, Op, Write, effect_fits, op_fits};
 
@@ -27,8 +20,7 @@ use us_value::{Catalog, Effect, Kind, Op, Write, effect_fits, op_fits};
 #[derive(Drop)]
 pub struct Shard {
     part: Part,
-    seq: u64,
-    sessions: Vec<Session>,
+    coordinator: Coordinator,
 }
 
 impl Model for Shard {
@@ -36,7 +28,7 @@ impl Model for Shard {
 
     ghost Value = { Shard };
 
-    ghost view = { λ a. record { partition = a.part; coordinator = record { seq = a.seq; sessions = a.sessions.items } } };
+    ghost view = { λ a. record { partition = a.part; coordinator = a.coordinator } };
 }
 
 impl Shard {
@@ -45,8 +37,7 @@ impl Shard {
     {
         Shard {
             part: Part::new(alloc),
-            seq: 0,
-            sessions: Vec::new(alloc),
+            coordinator: Coordinator::new(alloc),
         }
     }
 
@@ -54,60 +45,26 @@ impl Shard {
     pub fn put_waits(&self, me: &Actor, waits: &mut Vec<WaitingRequest>) -> Result<(), Memory>
         ensures { OnOk result (waits.new.items ≡ waits.old.items ++ waits_in me.now.site me.now.actor self.now.coordinator.sessions) }
     {
-        put_waits_in(me, self.sessions.as_slice(), waits)
+        self.coordinator.put_waits(me, waits)
     }
 
-    /// Each session's turn.
-    fn turn(
-        &mut self,
-        alloc: Global,
-        me: &Actor,
-        settings: &Settings,
-        out: Outputs,
-        turn: &Turn,
-    ) -> Result<Outputs, Memory>
-        requires site { me.now.site < 10 }
-        requires shape { IsShape settings.now.shape }
-        ensures shard { OnOk result (self.new ≡ (all_sessions (acts settings.now.catalog turn.now) me.now settings.now.shape (record { shard = self.old; out = out })).shard) }
-        ensures out { IfOk result (λ given. given ≡ (all_sessions (acts settings.now.catalog turn.now) me.now settings.now.shape (record { shard = self.old; out = out })).out) }
+    /// What the coordinator sees of its actor.
+    fn view(&self, me: &Actor, settings: &Settings) -> View
+        requires { me.now.site < 10 }
+        ensures { result ≡ view_of me.now settings.now.shape (record { shard = self.now; out = no_outputs }) }
     {
-        let mut desk = Desk {
+        View {
             me: *me,
             shape: settings.shape,
             base: self.part.known(me),
-            seq: self.seq,
-            out,
-        };
-        each(
-            alloc,
-            &settings.catalog,
-            &mut desk,
-            self.sessions.as_mut_slice(),
-            turn,
-        )?;
-        self.seq = desk.seq;
-        Ok(desk.out)
-    }
-
-    /// A client opens a session.
-    fn open(&mut self, alloc: Global, coord: u8, mut out: Outputs) -> Result<Outputs, Memory>
-        ensures shard { OnOk result (self.new ≡ (opened coord (record { shard = self.old; out = out })).shard) }
-        ensures out { IfOk result (λ given. given ≡ (opened coord (record { shard = self.old; out = out })).out) }
-    {
-        let number = after(self.sessions.len() as u64)?;
-        out.notes.push(Note::Opened {
-            coord,
-            session: number,
-        })?;
-        self.sessions.push(session_of(alloc, number))?;
-        Ok(out)
+        }
     }
 
     /// How many of its sessions are open.
     pub fn open_sessions(&self) -> usize
         ensures { result ≡ open_in self.now.coordinator.sessions }
     {
-        open_count(self.sessions.as_slice())
+        self.coordinator.open_sessions()
     }
 
     /// A coordinator asks for a transaction to be prepared.
@@ -123,8 +80,10 @@ impl Shard {
     ) -> Result<Outputs, Memory>
         requires site { me.now.site < 10 }
         requires actor { me.now.actor < 64 }
-        ensures shard { OnOk result (self.new ≡ (take_message me.now settings.now.shape from.now (record { shard = self.old; out = out }) (Message.Prepare tid snapshot writes)).shard) }
-        ensures out { IfOk result (λ given. given ≡ (take_message me.now settings.now.shape from.now (record { shard = self.old; out = out }) (Message.Prepare tid snapshot writes)).out) }
+        ensures shard { OnOk result (self.new ≡ (take_message me.now settings.now.shape from.now (record { shard = self.old; out = out })
+            (Message.Prepare tid snapshot writes)).shard) }
+        ensures out { IfOk result (λ given. given ≡ (take_message me.now settings.now.shape from.now (record { shard = self.old; out = out })
+            (Message.Prepare tid snapshot writes)).out) }
     {
         if let Some(ts) = self.part.prepare(me, tid, snapshot, writes)? {
             out.packets.push(Packet {
@@ -149,8 +108,10 @@ impl Shard {
         requires site { me.now.site < 10 }
         requires actor { me.now.actor < 64 }
         requires shape { IsShape settings.now.shape }
-        ensures shard { OnOk result (self.new ≡ (take_message me.now settings.now.shape from.now (record { shard = self.old; out = out }) message).shard) }
-        ensures out { IfOk result (λ given. given ≡ (take_message me.now settings.now.shape from.now (record { shard = self.old; out = out }) message).out) }
+        ensures shard { OnOk result (self.new ≡ (take_message me.now settings.now.shape from.now
+            (record { shard = self.old; out = out }) message).shard) }
+        ensures out { IfOk result (λ given. given ≡ (take_message me.now settings.now.shape from.now
+            (record { shard = self.old; out = out }) message).out) }
     {
         match message {
             Message::Get {
@@ -176,7 +137,8 @@ impl Shard {
                 Ok(out)
             }
             Message::Version { version } => {
-                self.turn(alloc, me, settings, out, &Turn::Version { version })
+                let view = self.view(me, settings);
+                self.coordinator.version(alloc, &view, &version, out)
             }
             Message::Prepare {
                 tid,
@@ -184,11 +146,12 @@ impl Shard {
                 writes,
             } => self.prepare(me, settings, from, out, tid, snapshot, writes),
             Message::Prepared { tid, ts } => {
-                let one = PreparedAt {
+                let one = Vote {
                     part: from.actor,
                     ts,
                 };
-                self.turn(alloc, me, settings, out, &Turn::Prepared { one, tid })
+                let view = self.view(me, settings);
+                self.coordinator.prepared(alloc, &view, one, tid, out)
             }
             Message::Commit { tid, vector } => {
                 self.part.commit(me, &tid, vector)?;
@@ -217,20 +180,25 @@ impl Shard {
     {
         match event {
             Event::Open { coord } if full => refuse_open(alloc, settings.shape, coord, out),
-            Event::Open { coord } => self.open(alloc, coord, out),
+            Event::Open { coord } => self.coordinator.open(alloc, coord, out),
             Event::Bytes {
                 coord: _,
                 session,
                 bytes,
             } => {
-                let turn = Turn::Bytes {
-                    number: session,
-                    piece: bytes,
-                };
-                self.turn(alloc, me, settings, out, &turn)
+                let view = self.view(me, settings);
+                self.coordinator.bytes(
+                    alloc,
+                    &settings.catalog,
+                    &view,
+                    session,
+                    bytes.as_slice(),
+                    out,
+                )
             }
             Event::Close { coord: _, session } => {
-                self.turn(alloc, me, settings, out, &Turn::Close { number: session })
+                let view = self.view(me, settings);
+                self.coordinator.close(alloc, &view, session, out)
             }
             Event::Take { packet } => {
                 if !is_taken(me, settings, &packet) {
@@ -262,7 +230,8 @@ impl Shard {
     {
         self.part
             .answer_parked(alloc, me, &settings.catalog, &mut out.packets)?;
-        self.turn(alloc, me, settings, out, &Turn::Run)
+        let view = self.view(me, settings);
+        self.coordinator.run(alloc, &settings.catalog, &view, out)
     }
 
     /// An event comes, and then the actor wakes. A site that is full opens no session.
@@ -277,8 +246,10 @@ impl Shard {
         requires site { me.now.site < 10 }
         requires actor { me.now.actor < 64 }
         requires shape { IsShape settings.now.shape }
-        ensures shard { OnOk result (self.new ≡ (wake me.now settings.now (take_event me.now settings.now full (record { shard = self.old; out = no_outputs }) event)).shard) }
-        ensures out { IfOk result (λ given. given ≡ (wake me.now settings.now (take_event me.now settings.now full (record { shard = self.old; out = no_outputs }) event)).out) }
+        ensures shard { OnOk result (self.new ≡ (wake me.now settings.now
+            (take_event me.now settings.now full (record { shard = self.old; out = no_outputs }) event)).shard) }
+        ensures out { IfOk result (λ given. given ≡ (wake me.now settings.now
+            (take_event me.now settings.now full (record { shard = self.old; out = no_outputs }) event)).out) }
     {
         let out = Outputs {
             packets: Items::new(alloc),
@@ -288,37 +259,6 @@ impl Shard {
         let out = self.take_event(alloc, me, settings, full, out, event)?;
         self.wake(alloc, me, settings, out)
     }
-}
-
-/// How many of the sessions are open.
-fn open_count(sessions: &[Session]) -> usize
-    ensures { result ≡ open_in sessions.now }
-{
-    let mut open = 0;
-    for session in sessions {
-        if session.closed {
-            continue;
-        }
-        open += 1;
-    }
-    open
-}
-
-/// Refuses to open a session: the site has as many open ones as it may have.
-fn refuse_open(alloc: Global, shape: Shape, coord: u8, mut out: Outputs) -> Result<Outputs, Memory>
-    ensures { IfOk result (λ given. given ≡ record out { client = out.client ++ record { coord = coord; session = 0; bytes = reply_spelling shape (Reply.Refused 0 11); ends = true } ∷ [] }) }
-{
-    let reply = Reply::Refused {
-        at: 0,
-        number: TOO_MANY_SESSIONS,
-    };
-    out.client.push(ClientOut {
-        coord,
-        session: 0,
-        bytes: spelled(alloc, shape, &reply)?,
-        ends: true,
-    })?;
-    Ok(out)
 }
 
 /// Whether the operation is one of this kind.
@@ -396,22 +336,4 @@ fn is_taken(me: &Actor, settings: &Settings, packet: &Packet) -> bool
     packet.from.site == me.site
         && is_partition(settings.shape, packet.from.actor)
         && fits(&settings.catalog, &packet.message)
-}
-
-/// A session of which nothing has come.
-fn session_of(alloc: Global, number: u64) -> Session
-    ensures { result ≡ new_session number }
-{
-    Session {
-        number,
-        past: Vector::zero(),
-        asked: 0,
-        stream: new_stream(alloc),
-        begun: false,
-        count: 0,
-        running: None,
-        waits: Waiting::Nothing,
-        asks: Items::new(alloc),
-        closed: false,
-    }
 }

@@ -4,11 +4,11 @@ ghost use Rattle.us_base.specs.Shape.{IsShape};
 ghost use Rattle.us_model.specs.Sites.{actor_of, new_shards, no_outputs, open_at, site_step};
 ghost use Rattle.us_model.specs.Worlds.{waits_at};
 
-use crate::session::after;
 use crate::shard::Shard;
 use std::alloc::Global;
 use std::marker::Model;
 use us_base::Limits;
+use us_coord::checked_successor;
 use us_exec::WaitingRequest;
 use us_kind::{Items, Memory};
 use us_model::{Event, Outputs, Settings};
@@ -99,7 +99,7 @@ impl Site {
         ensures stopped { self.new.stopped ≡ is_err result }
     {
         self.stopped = true;
-        let taken = after(self.taken)?;
+        let taken = checked_successor(self.taken)?;
         let out = step_shards(
             alloc,
             self.number,

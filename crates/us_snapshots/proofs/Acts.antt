@@ -6,12 +6,12 @@ use Rattle.std.specs.List.{list_any}
 use Rattle.std.proofs.lemmas.Bool.{cond_both, and_parts, eqb-true, lt-ltb}
 use Rattle.std.proofs.lemmas.Bool.Decides.{nat_tests}
 use Rattle.std.proofs.lemmas.List.Elements.{filter-append}
-use Rattle.us_kind.specs.Words.{In}
+use Rattle.us_kind.specs.Comparison.{In}
 use Rattle.us_kind.specs.Updates.{AllLater, Update, Stamped, state_after, updates_of as updates_in}
 use Rattle.us_kind.specs.declared.identity.Tid.{Tid}
 use Rattle.us_kind.specs.declared.identity.Tag.{Tag}
 use Rattle.us_kind.specs.declared.identity.Stamp.{Stamp}
-use Rattle.us_kind.proofs.ListLemmas.{in_push, in_either, GoesOn, goes_nowhere, goes_by, goes_further, in_later}
+use Rattle.us_kind.proofs.ListLemmas.{in_push, in_either, IsPrefix, prefix_refl, prefix_append, prefix_trans, in_later}
 use Rattle.us_kind.proofs.Members.{later_push}
 use Rattle.us_kind.proofs.TestLemmas.{bytes_eq-true}
 use Rattle.us_base.specs.Vector.{at_most, sum_of}
@@ -200,9 +200,9 @@ module _ (spaces : List (ℕ × Kind)) (decided : List LogTx) (tid : Tid) (sn : 
       ∙ ap (λ k. acts_from spaces decided tid sn (n + 1) next ds ++ act_of d k
       (effect_at spaces decided tid sn (acts_from spaces decided tid sn (n + 1) next ds) k d)) e
 
-  acts_from-more : (n : ℕ) (acts : List Act) (ds : List Done) → GoesOn acts (acts_from spaces decided tid sn n acts ds)
-  acts_from-more n acts [] = goes_nowhere acts
-  acts_from-more n acts (d ∷ ds) = goes_further (goes_by acts _) (acts_from-more (n + 1) _ ds)
+  acts_from-more : (n : ℕ) (acts : List Act) (ds : List Done) → IsPrefix acts (acts_from spaces decided tid sn n acts ds)
+  acts_from-more n acts [] = prefix_refl acts
+  acts_from-more n acts (d ∷ ds) = prefix_trans (prefix_append acts _) (acts_from-more (n + 1) _ ds)
 
   updates_act : (n : ℕ) (acts : List Act) (ds : List Done) → AllFits spaces ds → list_any (λ (d : Done). is_update d.op) ds ≡ true
       → (a : Act) × In a (acts_from spaces decided tid sn n acts ds)

@@ -1,6 +1,6 @@
 -- The execution of a snapshot history is closed and ordered.
 use Rattle.std.proofs.Common.{◌≡◌, ◌⊎◌, inl, inr, ⊎_elim, ℕ, ◌<◌, ◌≤◌, List, length, Bool, true, false, sym, ap, ◌∙◌, subst, arith, true≢false}
-use Rattle.us_kind.specs.Words.{In, tid_eq}
+use Rattle.us_kind.specs.Comparison.{In, tid_eq}
 use Rattle.us_kind.proofs.TestLemmas.{tid_eq-same}
 use Rattle.us_base.specs.Vector.{at_most}
 use Rattle.us_value.specs.declared.operation.Kind.{Kind}
@@ -21,7 +21,7 @@ use Rattle.us_snapshots.specs.Snapshots.{GoesOnFrom, IsSnapshotHistory}
 use Rattle.us_snapshots.proofs.Tests.{or_left}
 use Rattle.us_snapshots.proofs.Sources.{from_entry, from_loose, entries_stand}
 use Rattle.us_snapshots.proofs.Entries.{in_arbitrated}
-use Rattle.us_snapshots.proofs.Pasts.{leads-from, earlier_leads, reaches-from, reached_by_own}
+use Rattle.us_snapshots.proofs.Pasts.{is_step-from, earlier_is_step, reaches-from, reached_by_own}
 use Rattle.us_snapshots.proofs.Order.{seq_order, reaches_stands}
 use Rattle.us_snapshots.proofs.Reached.{reaches_further, before-by, before-from}
 
@@ -92,7 +92,7 @@ module _ {spaces : List (ℕ × Kind)} {conflicts : List Done → List Done → 
         from = sym (ap (λ (x : Entry). x.session) g.is ∙ from);
         count = omega arith;
       } in
-      let step = leads-from told.links g.source t (record { other = snap.links.other g.source t g.here k goes; by = inl goes }) in
+      let step = is_step-from told.links g.source t (record { other = snap.links.other g.source t g.here k goes; by = inl goes }) in
       is_before_from e g t (before-from told g.source t g.here (reaches-from (length cs) told.links cs g.source t step))
 
   closed_past : (t : Begun) → In t told.begun → IsClosedPast (execution_by past_of told) t.session (past t)
@@ -102,7 +102,7 @@ module _ {spaces : List (ℕ × Kind)} {conflicts : List Done → List Done → 
   earlier_before : (c : Committed) (t : Begun) → In c cs → c.begun.session ≡ t.session → c.begun.tid.seq < t.tid.seq
       → is_before (entry_of past c) (past t) ≡ true
   earlier_before c t i same less =
-      let step = leads-from told.links c t (earlier_leads told.links c t (same, less)) in
+      let step = is_step-from told.links c t (earlier_is_step told.links c t (same, less)) in
       before-from told c t i (reaches-from (length cs) told.links cs c t step)
 
   in_session : (d e : Entry) → In d (execution_by past_of told).entries → In e (execution_by past_of told).entries

@@ -1,6 +1,6 @@
 -- The committed transactions in arbitration order.
 use Rattle.std.proofs.Common.{◌≡◌, ◌⊎◌, inl, inr, ⊎_elim, suc, List, [], ◌∷◌, length, Bool, true, false, refl, sym, ap, ◌∙◌, subst, arith, cond, true≢false}
-use Rattle.us_kind.specs.Words.{In}
+use Rattle.us_kind.specs.Comparison.{In}
 use Rattle.us_kind.specs.Histories.{all_from}
 use Rattle.us_kind.specs.Ascending.{all_in}
 use Rattle.us_kind.proofs.TestLemmas.{lex-apart, lex-not, tid_less-apart, tid_less-not}

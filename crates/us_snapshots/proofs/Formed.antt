@@ -2,7 +2,7 @@
 use Rattle.std.proofs.Common.{◌≡◌, ◌∙◌, ℕ, ◌<◌, ◌≤◌, inl, inr, List, [], ◌∷◌, length, Bool, true, false, cond, map, refl, sym, ap, subst, arith, true≢false}
 use Rattle.std.specs.List.{range_with_len}
 use Rattle.std.proofs.lemmas.List.{length-map}
-use Rattle.us_kind.specs.Words.{In, tid_eq}
+use Rattle.us_kind.specs.Comparison.{In, tid_eq}
 use Rattle.us_kind.specs.Updates.{All, AllLater}
 use Rattle.us_kind.specs.Histories.{all_from}
 use Rattle.us_kind.specs.Ascending.{all_in}
@@ -24,7 +24,7 @@ use Rattle.us_snapshots.proofs.Tests.{found-any}
 use Rattle.us_snapshots.proofs.Names.{decided_one, numbered}
 use Rattle.us_snapshots.proofs.Numbers.{later_in, counted_session, RisesInSession, numbers_ascend}
 use Rattle.us_snapshots.proofs.Sources.{from_loose}
-use Rattle.us_snapshots.proofs.Kept.{KeepsOrder, session_kept, entry_numbers, counted}
+use Rattle.us_snapshots.proofs.SessionOrder.{KeepsOrder, session_kept, entry_numbers, are_numbered}
 use Rattle.us_snapshots.proofs.Sessions.{sessions_ascend, CountedOf, of_counts, counts_ascend, count_most}
 use Rattle.us_snapshots.proofs.Order.{not_preceding}
 use Rattle.us_snapshots.proofs.Closed.{of_entry, same_session}
@@ -78,7 +78,7 @@ module _ {spaces : List (ℕ × Kind)} {conflicts : List Done → List Done → 
   entries_numbers s = entry_numbers past s (arbitrated cs) ∙ ap (map (λ (c : Committed). c.number)) (session_kept s cs keeps_order)
 
   numbers : (s : SessionName) → numbers_of s es ≡ range_with_len 1 (length (numbers_of s es))
-  numbers s = subst (λ ns. ns ≡ range_with_len 1 (length ns)) (sym (entries_numbers s)) (counted (of_session s cs) (snap.names.numbered s))
+  numbers s = subst (λ ns. ns ≡ range_with_len 1 (length ns)) (sym (entries_numbers s)) (are_numbered (of_session s cs) (snap.names.numbered s))
 
   -- PASTS
   as_many : (s : SessionName) → length (numbers_of s es) ≡ committed_in s cs

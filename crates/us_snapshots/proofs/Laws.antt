@@ -1,6 +1,6 @@
 -- The laws of snapshot histories.
 use Rattle.std.proofs.Common.{ℕ, List, [], Bool, refl, sym, subst}
-use Rattle.us_kind.specs.Words.{In}
+use Rattle.us_kind.specs.Comparison.{In}
 use Rattle.us_value.specs.declared.operation.Kind.{Kind}
 use Rattle.us_exec.specs.declared.Done.{Done}
 use Rattle.us_exec.specs.declared.Entry.{Entry}

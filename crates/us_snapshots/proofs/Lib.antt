@@ -12,7 +12,7 @@ pub mod Closed
 pub mod Direct
 pub mod Ascending
 pub mod Sessions
-pub mod Kept
+pub mod SessionOrder
 pub mod Formed
 pub mod Seen
 pub mod Valued

@@ -1,6 +1,6 @@
 -- What a transaction meets: the updates of the decided ones in its snapshot, which are those of the transactions before it.
 use Rattle.std.proofs.Common.{◌≡◌, ℕ, ◌+◌, ◌<◌, List, [], ◌∷◌, ◌++◌, length, Bool, true, sym, ap, ◌∙◌, subst}
-use Rattle.us_kind.specs.Words.{In, tag_of}
+use Rattle.us_kind.specs.Comparison.{In, tag_of}
 use Rattle.us_kind.specs.Updates.{AllLater, Stamped, StandsBefore, before, state_after}
 use Rattle.us_kind.specs.declared.identity.Tid.{Tid}
 use Rattle.us_kind.specs.declared.identity.Tag.{Tag}

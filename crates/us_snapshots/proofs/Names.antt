@@ -1,6 +1,6 @@
 -- What the names of a snapshot history say of any two of its transactions.
 use Rattle.std.proofs.Common.{◌≡◌, ⊎_elim, ◌<◌, ◌≤◌, sym, ap, arith}
-use Rattle.us_kind.specs.Words.{In}
+use Rattle.us_kind.specs.Comparison.{In}
 use Rattle.us_kind.proofs.ListLemmas.{filter_in}
 use Rattle.us_exec.specs.Past.{session_eq}
 use Rattle.us_history.specs.Histories.{Begun, Committed, History, committed_in, of_session}

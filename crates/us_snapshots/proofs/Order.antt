@@ -2,7 +2,7 @@
 use Rattle.std.proofs.Common.{◌≡◌, ◌⊎◌, inl, inr, ⊎_elim, ℕ, zero, suc, ◌<◌, ◌≤◌, List, Bool, true, false, refl, sym, ap, ◌∙◌, arith}
 use Rattle.std.specs.Prelude.{nat_lt}
 use Rattle.std.proofs.lemmas.Bool.Decides.{nat_tests}
-use Rattle.us_kind.specs.Words.{In, lex, tid_less}
+use Rattle.us_kind.specs.Comparison.{In, lex, tid_less}
 use Rattle.us_kind.specs.declared.identity.Tid.{Tid}
 use Rattle.us_base.specs.Vector.{at_most, sum_of}
 use Rattle.us_base.proofs.Vectors.{at_most-true, sum-at_most, sum-below}
@@ -12,13 +12,13 @@ use Rattle.us_exec.specs.declared.Done.{Done}
 use Rattle.us_exec.specs.WellFormed.{IsOfCoordinator}
 use Rattle.us_history.specs.declared.LogTx.{LogTx}
 use Rattle.us_history.specs.Histories.{Committed, History, has_own_vector}
-use Rattle.us_history.specs.Pasts.{leads, reaches_within}
+use Rattle.us_history.specs.Pasts.{is_step, reaches_within}
 use Rattle.us_history.specs.Arbitration.{ties, precedes, arbitrated}
 use Rattle.us_snapshots.specs.Snapshots.{GoesOnFrom, IsSnapshotHistory}
 use Rattle.us_snapshots.proofs.Stands.{StandsEarlier, one_earlier, earlier_later, TidsApart, stands_further, behind, behind-less}
 use Rattle.us_snapshots.proofs.Names.{decided_one, stands, numbers}
 use Rattle.us_snapshots.proofs.Entries.{arbitrated_holds, arbitrated-sorted, arbitrated_apart, precedes_stands, stands_arbitrated}
-use Rattle.us_snapshots.proofs.Pasts.{IsEarlier, IsInSnapshot, Leads, leads-true, Through, last_or_more}
+use Rattle.us_snapshots.proofs.Pasts.{IsEarlier, IsInSnapshot, IsStep, is_step-true, Through, last_or_more}
 
 -- NUMBERS
 compare : (a b : ℕ) → (a < b) ⊎ ((b < a) ⊎ (a ≡ b))
@@ -133,7 +133,7 @@ module _ {spaces : List (ℕ × Kind)} {conflicts : List Done → List Done → 
           two)
           (one_earlier c d cs i j)
 
-  step_stands : (c d : Committed) → In c cs → In d cs → Leads told.links c d.begun → StandsEarlier c d es
+  step_stands : (c d : Committed) → In c cs → In d cs → IsStep told.links c d.begun → StandsEarlier c d es
   step_stands c d i j h = ⊎_elim (λ a. link_stands c d i j h.other a) (λ b. ⊎_elim by_session by_vector b) h.by
     where
       by_session : IsEarlier c d.begun → StandsEarlier c d es
@@ -144,14 +144,14 @@ module _ {spaces : List (ℕ × Kind)} {conflicts : List Done → List Done → 
 
   -- and so do more
   pub reaches_stands : (n : ℕ) (c d : Committed) → In c cs → In d cs → reaches_within n told.links cs c d.begun ≡ true → StandsEarlier c d es
-  reaches_stands zero c d i j h = step_stands c d i j (leads-true told.links c d.begun h)
+  reaches_stands zero c d i j h = step_stands c d i j (is_step-true told.links c d.begun h)
   reaches_stands (suc n) c d i j h = ⊎_elim
-      (λ a. step_stands c d i j (leads-true told.links c d.begun a))
+      (λ a. step_stands c d i j (is_step-true told.links c d.begun a))
       (λ (g : Through n told.links cs c d.begun).
-      let to_next = step_stands c g.next i g.here (leads-true told.links c g.next.begun g.step) in
+      let to_next = step_stands c g.next i g.here (is_step-true told.links c g.next.begun g.step) in
       stands_further c g.next d es es_apart to_next (reaches_stands n g.next d g.here j g.rest))
       (last_or_more n told.links cs c d.begun h)
 
   -- so that there are fewer behind the next
-  pub fewer_behind : (c d : Committed) → In c cs → In d cs → leads told.links c d.begun ≡ true → behind d.begun.tid es < behind c.begun.tid es
-  fewer_behind c d i j h = behind-less c d es es_apart (step_stands c d i j (leads-true told.links c d.begun h))
+  pub fewer_behind : (c d : Committed) → In c cs → In d cs → is_step told.links c d.begun ≡ true → behind d.begun.tid es < behind c.begun.tid es
+  fewer_behind c d i j h = behind-less c d es es_apart (step_stands c d i j (is_step-true told.links c d.begun h))

@@ -1,7 +1,7 @@
 -- Each update of a transaction was prepared over those that it is after.
 use Rattle.std.proofs.Common.{◌≡◌, ⊎_elim, ℕ, ◌<◌, List, ◌++◌, Bool, true, false, refl, sym, ap, ◌∙◌, subst, cond, true≢false}
 use Rattle.std.specs.Prelude.{nat_lt}
-use Rattle.us_kind.specs.Words.{In, tid_eq, tag_of}
+use Rattle.us_kind.specs.Comparison.{In, tid_eq, tag_of}
 use Rattle.us_kind.specs.Updates.{AllLater, Stamped, WasPreparedInAnyOrder, before, with_sum, with_sums}
 use Rattle.us_kind.specs.declared.identity.Tid.{Tid}
 use Rattle.us_kind.specs.declared.identity.Tag.{Tag}

@@ -1,14 +1,14 @@
 -- To reach goes on from one to the next, however many steps there are: each leads on in arbitration order.
 use Rattle.std.proofs.Common.{◌≡◌, ⊎_elim, ℕ, zero, suc, ◌<◌, ◌≤◌, List, length, Bool, true, refl, sym, subst, arith}
 use Rattle.std.proofs.lemmas.Bool.{leb-true, le-leb}
-use Rattle.us_kind.specs.Words.{In}
+use Rattle.us_kind.specs.Comparison.{In}
 use Rattle.us_value.specs.declared.operation.Kind.{Kind}
 use Rattle.us_exec.specs.declared.Done.{Done}
 use Rattle.us_exec.specs.declared.Link.{Link}
 use Rattle.us_exec.specs.Past.{count_in, is_before}
 use Rattle.us_history.specs.declared.LogTx.{LogTx}
 use Rattle.us_history.specs.Histories.{Begun, Committed, History}
-use Rattle.us_history.specs.Pasts.{leads, reaches_within, reaches, past_of}
+use Rattle.us_history.specs.Pasts.{is_step, reaches_within, reaches, past_of}
 use Rattle.us_history.specs.Arbitration.{arbitrated}
 use Rattle.us_history.specs.Executions.{entry_of}
 use Rattle.us_snapshots.specs.Snapshots.{IsSnapshotHistory}
@@ -16,7 +16,7 @@ use Rattle.us_snapshots.proofs.Names.{numbered}
 use Rattle.us_snapshots.proofs.Counts.{count_of-holds, count_of-found, count_in-counts}
 use Rattle.us_snapshots.proofs.Stands.{behind, behind-most}
 use Rattle.us_snapshots.proofs.Entries.{arbitrated-length}
-use Rattle.us_snapshots.proofs.Pasts.{earlier_leads, leads-from, reaches-from, Through, last_or_more, one_more}
+use Rattle.us_snapshots.proofs.Pasts.{earlier_is_step, is_step-from, reaches-from, Through, last_or_more, one_more}
 use Rattle.us_snapshots.proofs.Order.{seq_order, fewer_behind}
 
 -- WITHIN MORE STEPS
@@ -31,7 +31,7 @@ reaches_more (suc n) (suc m) links cs c t le h = ⊎_elim
     (last_or_more n links cs c t h)
 
 -- one step, and then so many
-step_on : (n m : ℕ) (links : List Link) (cs : List Committed) (c d : Committed) (t : Begun) → In d cs → n < m → leads links c d.begun ≡ true
+step_on : (n m : ℕ) (links : List Link) (cs : List Committed) (c d : Committed) (t : Begun) → In d cs → n < m → is_step links c d.begun ≡ true
     → reaches_within n links cs d t ≡ true → reaches_within m links cs c t ≡ true
 step_on n zero links cs c d t i less h k = absurd (omega arith)
 step_on n (suc m) links cs c d t i less h k =
@@ -86,7 +86,7 @@ module _ {spaces : List (ℕ × Kind)} {conflicts : List Done → List Done → 
   earlier_reaches c d t i j same le h = ⊎_elim
       (λ one. subst (λ (x : Committed). reaches told.links cs x t ≡ true) (sym one) h)
       (λ less.
-      let step = leads-from told.links c d.begun (earlier_leads told.links c d.begun (same, less)) in
+      let step = is_step-from told.links c d.begun (earlier_is_step told.links c d.begun (same, less)) in
       reaches_further c d t i j (reaches-from (length cs) told.links cs c d.begun step) h)
       (seq_order snap c d i j same le)
 

@@ -2,7 +2,7 @@
 use Rattle.std.proofs.Common.{◌≡◌, ◌∙◌, ℕ, ◌≤◌, ◌⊎◌, ⊎_elim, inl, inr, List, [], ◌∷◌, Bool, true, false, cond, max, sym, ap, subst, arith, true≢false, refl}
 use Rattle.std.specs.Prelude.{◌&&◌, nat_lt}
 use Rattle.std.proofs.lemmas.Bool.Decides.{nat_tests}
-use Rattle.us_kind.specs.Words.{In}
+use Rattle.us_kind.specs.Comparison.{In}
 use Rattle.us_kind.specs.Updates.{All, AllLater}
 use Rattle.us_kind.specs.Histories.{all_from}
 use Rattle.us_kind.specs.Ascending.{all_in}

@@ -2,7 +2,7 @@
 use Rattle.std.proofs.Common.{◌≡◌, ◌⊎◌, inl, inr, List, [], ◌∷◌, Bool, true, false, ◌||◌, cond, refl, sym, ap, ◌∙◌, arith, true≢false}
 use Rattle.std.specs.List.{list_any}
 use Rattle.std.proofs.lemmas.Bool.{and_parts, eqb-true}
-use Rattle.us_kind.specs.Words.{In, tid_eq}
+use Rattle.us_kind.specs.Comparison.{In, tid_eq}
 use Rattle.us_kind.specs.declared.identity.Tid.{Tid}
 use Rattle.us_kind.proofs.TestLemmas.{tid_eq-true}
 use Rattle.us_exec.specs.declared.SessionName.{SessionName}
@@ -29,16 +29,16 @@ or_right true b e = refl
 or_right false b e = e
 
 -- an item that passes
-pub record Found {X : Type 0} (test : X → Bool) (xs : List X) : Type 0 where
+pub record Witness {X : Type 0} (test : X → Bool) (xs : List X) : Type 0 where
   pub item : X
   pub here : In item xs
   pub passes : test item ≡ true
 
-pub any-found : {X : Type 0} (test : X → Bool) (xs : List X) → list_any test xs ≡ true → Found test xs
+pub any-found : {X : Type 0} (test : X → Bool) (xs : List X) → list_any test xs ≡ true → Witness test xs
 any-found test [] h = absurd (true≢false (sym h))
 any-found test (x ∷ xs) h = on (test x) refl h (any-found test xs)
   where
-    on : (b : Bool) → test x ≡ b → (b || list_any test xs) ≡ true → (list_any test xs ≡ true → Found test xs) → Found test (x ∷ xs)
+    on : (b : Bool) → test x ≡ b → (b || list_any test xs) ≡ true → (list_any test xs ≡ true → Witness test xs) → Witness test (x ∷ xs)
     on true e h again = record { item = x; here = inl refl; passes = e }
     on false e h again = let f = again h in record { item = f.item; here = inr f.here; passes = f.passes }
 

@@ -5,7 +5,7 @@ use Rattle.std.proofs.Common.{cond, true≢false, IsPermutation}
 use Rattle.std.specs.Prelude.{nat_lt}
 use Rattle.std.specs.List.{list_any}
 use Rattle.std.proofs.lemmas.List.Sorted.{IsPermutation-append_left}
-use Rattle.us_kind.specs.Words.{In, tid_eq, tag_of}
+use Rattle.us_kind.specs.Comparison.{In, tid_eq, tag_of}
 use Rattle.us_kind.specs.Updates.{AllLater, Stamped, StandsBefore, WasPreparedInAnyOrder, IsHistoryInAnyOrder, updates_of as updates_in}
 use Rattle.us_kind.specs.Histories.{all_from}
 use Rattle.us_kind.specs.declared.identity.Tid.{Tid}

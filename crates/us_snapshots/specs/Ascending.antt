@@ -1,6 +1,6 @@
--- What a search by halves for a past needs of a history.
+-- What a binary search for a past needs of a history.
 use Rattle.std.specs.Prelude.{◌≡◌, ◌<◌, List, [], true}
-use Rattle.us_kind.specs.Words.{In}
+use Rattle.us_kind.specs.Comparison.{In}
 use Rattle.us_base.specs.Vector.{at_most}
 use Rattle.us_history.specs.Histories.{Begun, Committed, History, has_own_vector}
 

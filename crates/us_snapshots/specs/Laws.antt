@@ -1,7 +1,7 @@
 -- What holds of every snapshot history.
 use Rattle.std.specs.Prelude.{◌≡◌, ℕ, List, [], Bool}
 use Rattle.us_value.specs.declared.operation.Kind.{Kind}
-use Rattle.us_kind.specs.Words.{In}
+use Rattle.us_kind.specs.Comparison.{In}
 use Rattle.us_exec.specs.declared.SessionName.{SessionName}
 use Rattle.us_exec.specs.declared.Done.{Done}
 use Rattle.us_exec.specs.Past.{count_in}
@@ -10,7 +10,7 @@ use Rattle.us_exec.specs.Consistency.{IsClosed, IsValued, IsOrdered}
 use Rattle.us_exec.specs.Conflict.{Declared, conflict}
 use Rattle.us_history.specs.declared.LogTx.{LogTx}
 use Rattle.us_history.specs.Histories.{Begun, History}
-use Rattle.us_history.specs.Pasts.{leads, count_of, past_of, direct_past}
+use Rattle.us_history.specs.Pasts.{is_step, count_of, past_of, direct_past}
 use Rattle.us_history.specs.Executions.{execution_by}
 use Rattle.us_snapshots.specs.Snapshots.{IsSnapshotHistory}
 use Rattle.us_snapshots.specs.Ascending.{Ascends}
@@ -40,7 +40,7 @@ ExecutionsAreOrdered =
 abbrev pub CountsAreDirect : Type 0
 CountsAreDirect =
     OfSnapshotHistories (λ h. h.links ≡ [] → (t : Begun) (s : SessionName) → In t h.begun
-    → count_in s (past_of h t) ≡ count_of (λ c. leads h.links c t) s h.committed)
+    → count_in s (past_of h t) ≡ count_of (λ c. is_step h.links c t) s h.committed)
 
 -- then the pasts, which are defined by the closure of steps, are those counted in one step
 abbrev pub ExecutionsAreDirect : Type 0

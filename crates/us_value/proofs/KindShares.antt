@@ -4,7 +4,7 @@ use Rattle.std.proofs.lemmas.List.Sorted.{IsPermutation-cons, IsPermutation-refl
 use Rattle.us_kind.specs.declared.identity.Stamp.{Stamp}
 use Rattle.us_kind.specs.declared.identity.Tag.{Tag}
 use Rattle.us_kind.specs.Updates.{All, AllLater, AnswersInAnyOrder, IsHistoryInAnyOrder, StandsBefore, Stamped, Update, WasPreparedInAnyOrder, before, state_after, updates_of, with_sum, with_sums}
-use Rattle.us_kind.specs.Words.{In, tag_of}
+use Rattle.us_kind.specs.Comparison.{In, tag_of}
 use Rattle.us_kind.proofs.Permutations.{along_permutation}
 use Rattle.us_value.specs.declared.operation.Answer.{Answer}
 use Rattle.us_value.specs.declared.operation.Effect.{Effect}

@@ -1,5 +1,5 @@
 pub mod CatalogLemmas
-pub mod Counted
+pub mod UpdateCount
 pub mod KindLaws
 pub mod KindShares
 pub mod OwnUpdates

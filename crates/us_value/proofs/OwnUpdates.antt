@@ -6,7 +6,7 @@ use Rattle.us_kind.specs.declared.identity.Stamp.{Stamp}
 use Rattle.us_kind.specs.declared.identity.Tag.{Tag}
 use Rattle.us_kind.specs.declared.identity.Tid.{Tid}
 use Rattle.us_kind.specs.Updates.{All, AllLater, StandsBefore, Stamped, state_after, update_of, updates_of}
-use Rattle.us_kind.specs.Words.{lex, stamp_less, tag_of}
+use Rattle.us_kind.specs.Comparison.{lex, stamp_less, tag_of}
 use Rattle.us_value.specs.declared.operation.Effect.{Effect}
 use Rattle.us_value.specs.declared.operation.Op.{Op}
 use Rattle.us_value.specs.Laws.{AreOwn, AreVisible, OwnUpdatesComeLast, own_sum}

@@ -1,6 +1,6 @@
 -- Items.
 use Rattle.std.specs.Prelude.{Bool, ◌&&◌, ◌==◌}
-use Rattle.us_kind.specs.Words.{bytes_eq}
+use Rattle.us_kind.specs.Comparison.{bytes_eq}
 use Rattle.us_value.specs.declared.item.Item.{Item}
 
 -- the same item

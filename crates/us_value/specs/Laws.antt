@@ -3,11 +3,11 @@ use Rattle.std.specs.Prelude.{◌≡◌, ◌≢◌, ◌<◌, ◌-◌, ◌^◌, �
 use Rattle.us_kind.specs.declared.identity.Tag.{Tag}
 use Rattle.us_kind.specs.declared.identity.Tid.{Tid}
 use Rattle.us_kind.specs.Updates.{All, AllLater, CountsUpdates, IsHistoryInAnyOrder, StandsBefore, Stamped, WasPreparedInAnyOrder, state_after, updates_of}
-use Rattle.us_kind.specs.Words.{In}
+use Rattle.us_kind.specs.Comparison.{In}
 use Rattle.us_value.specs.declared.operation.Effect.{Effect}
 use Rattle.us_value.specs.declared.operation.Kind.{Kind}
 use Rattle.us_value.specs.declared.operation.Op.{Op}
-use Rattle.us_value.specs.Values.{answered, counted, initial, is_update, op_fits, prepared, updated, value_of}
+use Rattle.us_value.specs.Values.{answered, update_count, initial, is_update, op_fits, prepared, updated, value_of}
 
 -- all these operations are of the kind
 abbrev pub AllFit : Kind → List (Stamped Op Effect) → Type 0
@@ -55,4 +55,4 @@ OwnUpdatesComeLast =
 
 -- a state counts no more updates than were applied to it
 abbrev pub CountsAsApplied : Type 0
-CountsAsApplied = (k : Kind) → CountsUpdates (initial k) updated counted
+CountsAsApplied = (k : Kind) → CountsUpdates (initial k) updated update_count

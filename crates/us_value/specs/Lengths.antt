@@ -1,4 +1,4 @@
--- How many bytes spell an answer or a write. Where a list is longer than its count field can tell, it counts as if the
+-- How many bytes encode an answer or a write. Where a list is longer than its count field can tell, it counts as if the
 -- field could.
 use Rattle.std.specs.Prelude.{ℕ, ◌+◌, ◌*◌, ◌-◌, ◌^◌, min, List, [], ◌∷◌, length}
 use Rattle.us_kind.specs.declared.identity.Tag.{Tag}

@@ -6,7 +6,7 @@ use Rattle.std.specs.Bool.{Decides}
 use Rattle.std.specs.Cmp.{IsEquivalence, IsPartialEquivalence, decided, partial_equiv_from_equiv}
 use Rattle.std.specs.Prelude.{IsTrue, ◌++◌, true}
 use Rattle.std.specs.Hash as fed
-use Rattle.us_kind.specs.Words.{bytes_eq}
+use Rattle.us_kind.specs.Comparison.{bytes_eq}
 use Rattle.us_value.specs.declared.item.Item.{Item}
 use Rattle.us_value.specs.Items.{item_eq}
 

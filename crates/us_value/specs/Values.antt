@@ -43,7 +43,8 @@ use Rattle.us_value.specs.declared.operation.Kind.TheVariants as kind
 use Rattle.us_value.specs.declared.operation.Class.{Class}
 use Rattle.us_value.specs.declared.operation.Class.TheVariants as class
 use Rattle.us_value.specs.declared.operation.Op.{Op}
-use Rattle.us_value.specs.declared.operation.Op.TheVariants.{RegisterRead, RegisterWrite, CounterRead, CounterAdd, SetMembers, SetContains, SetAdd, SetRemove, FlagRead, FlagEnable, FlagDisable, MultiRead, MultiWrite}
+use Rattle.us_value.specs.declared.operation.Op.TheVariants.{RegisterRead, RegisterWrite, CounterRead, CounterAdd, SetMembers, SetContains, SetAdd}
+use Rattle.us_value.specs.declared.operation.Op.TheVariants.{SetRemove, FlagRead, FlagEnable, FlagDisable, MultiRead, MultiWrite}
 use Rattle.us_value.specs.declared.operation.Effect.{Effect}
 use Rattle.us_value.specs.declared.operation.Effect.TheVariants as effect
 use Rattle.us_value.specs.declared.operation.Answer.{Answer}
@@ -254,12 +255,12 @@ initial kind.Flag = state.Flag flag_initial
 initial kind.Multi = state.Multi multi_initial
 
 -- how many updates a counter counted in
-abbrev pub counted : State → ℕ
-counted (state.Register s) = 0
-counted (state.Counter s) = s.updates
-counted (state.Set s) = 0
-counted (state.Flag s) = 0
-counted (state.Multi s) = 0
+abbrev pub update_count : State → ℕ
+update_count (state.Register s) = 0
+update_count (state.Counter s) = s.updates
+update_count (state.Set s) = 0
+update_count (state.Flag s) = 0
+update_count (state.Multi s) = 0
 
 -- the state after an effect
 abbrev pub updated : State → Effect → Stamp → State

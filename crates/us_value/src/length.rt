@@ -1,4 +1,4 @@
-//! How many bytes spell an answer or a write. A length that passes `usize` is answered as its greatest number.
+//! How many bytes encode an answer or a write. A length that passes `usize` is answered as its greatest number.
 ghost use Rattle.std.specs.Prelude.{◌≡◌, ◌+◌};
 ghost use Rattle.us_value.specs.Lengths.{capped, value_length, item_length, tags_length, all_lengths, answer_length, effect_length, write_length};
 

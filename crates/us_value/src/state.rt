@@ -1,6 +1,6 @@
 ghost use Rattle.std.specs.Prelude.{◌≡◌, ◌↔◌, ◌<◌, ◌^◌, false, IfOk, OnOk, OnErr, Err};
 ghost use Rattle.us_value.specs.declared.fault.ValueFault.TheVariants.{WrongOperation};
-ghost use Rattle.us_value.specs.Values.{initial, answered, prepared, updated, counted, kind_of_state, op_fits, effect_fits};
+ghost use Rattle.us_value.specs.Values.{initial, answered, prepared, updated, update_count, kind_of_state, op_fits, effect_fits};
 
 use crate::shares::{
     counter_effect_of, counter_op_of, flag_effect_of, flag_op_of, multi_effect_of, multi_op_of,
@@ -16,7 +16,7 @@ use us_sets::{AddWinsSet, EnableWinsFlag};
 /// The state of an item of a kind before any update.
 pub fn initial(alloc: Global, kind: Kind) -> Result<State, Memory>
     ensures state { IfOk result (λ state. state ≡ initial kind) }
-    ensures none_counted { IfOk result (λ state. counted state ≡ 0) }
+    ensures no_updates { IfOk result (λ state. update_count state ≡ 0) }
 {
     Ok(match kind {
         Kind::Register => State::Register {
@@ -41,7 +41,7 @@ impl State {
     /// The state of an item of a kind before any update.
     pub fn initial(alloc: Global, kind: Kind) -> Result<State, Memory>
         ensures state { IfOk result (λ state. state ≡ initial kind) }
-        ensures none_counted { IfOk result (λ state. counted state ≡ 0) }
+        ensures no_updates { IfOk result (λ state. update_count state ≡ 0) }
     {
         initial(alloc, kind)
     }
@@ -59,9 +59,30 @@ impl State {
         }
     }
 
+    /// A copy of the state, which is the same state.
+    pub fn copy(&self) -> Result<State, Memory>
+        ensures { IfOk result (λ copy. copy ≡ self.now) }
+    {
+        Ok(match self {
+            State::Register { state } => State::Register {
+                state: state.copy()?,
+            },
+            State::Counter { state } => State::Counter { state: *state },
+            State::Set { state } => State::Set {
+                state: state.copy()?,
+            },
+            State::Flag { state } => State::Flag {
+                state: state.copy()?,
+            },
+            State::Multi { state } => State::Multi {
+                state: state.copy()?,
+            },
+        })
+    }
+
     /// How many updates a counter counts. Other states count none.
-    pub fn counted(&self) -> u64
-        ensures { result ≡ counted self.now }
+    pub fn update_count(&self) -> u64
+        ensures { result ≡ update_count self.now }
     {
         match self {
             State::Counter { state } => state.updates(),
@@ -142,7 +163,7 @@ pub fn apply(
     effect: &Effect,
     stamp: Stamp,
 ) -> Result<(), ValueFault>
-    requires { counted state.old < 2 ^ 60 }
+    requires { update_count state.old < 2 ^ 60 }
     ensures ok { OnOk result (state.new ≡ updated state.old effect.now stamp) }
     ensures wrong { (result ≡ Err WrongOperation) ↔ (effect_fits (kind_of_state state.old) effect.now ≡ false) }
     ensures err { OnErr result (state.new ≡ state.old) }

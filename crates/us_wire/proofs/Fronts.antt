@@ -90,23 +90,23 @@ frame_at limit stream long good enough =
     record { field = omega (arith, len); good = rw field good; whole = len ∙ ap (λ (k : ℕ). 4 + k) (sym field) }
 
 -- the three ways in which a stream can begin
-pub data Front (limit : ℕ) (stream : List ℕ) : Type 0 where
-  partial : IsPartial limit stream → Front limit stream
-  bad : HasBadLength limit stream → Front limit stream
-  whole : (frame rest : List ℕ) → stream ≡ frame ++ rest → IsFrame limit frame → Front limit stream
+pub data FirstFrame (limit : ℕ) (stream : List ℕ) : Type 0 where
+  partial : IsPartial limit stream → FirstFrame limit stream
+  bad : HasBadLength limit stream → FirstFrame limit stream
+  whole : (frame rest : List ℕ) → stream ≡ frame ++ rest → IsFrame limit frame → FirstFrame limit stream
 
-pub front_of : (limit : ℕ) (stream : List ℕ) → Front limit stream
-front_of limit stream = on (ltb (length stream) 4) refl where
-  ends : (good : is_bad_length limit (length_field stream) ≡ false) → 4 ≤ length stream → (b : Bool) → ltb (length stream) (4 + length_field stream) ≡ b → Front limit stream
+pub first_frame : (limit : ℕ) (stream : List ℕ) → FirstFrame limit stream
+first_frame limit stream = on (ltb (length stream) 4) refl where
+  ends : (good : is_bad_length limit (length_field stream) ≡ false) → 4 ≤ length stream → (b : Bool) → ltb (length stream) (4 + length_field stream) ≡ b → FirstFrame limit stream
   ends good long true e = partial (inr (record { good = good; cut = ltb-true _ _ e }))
   ends good long false e =
       let n = 4 + length_field stream in
       whole (take n stream) (drop n stream) (sym (take-append-drop n stream)) (frame_at limit stream long good (ltb-false _ _ e))
 
-  goes : 4 ≤ length stream → (b : Bool) → is_bad_length limit (length_field stream) ≡ b → Front limit stream
+  goes : 4 ≤ length stream → (b : Bool) → is_bad_length limit (length_field stream) ≡ b → FirstFrame limit stream
   goes long true e = bad (record { field = long; bad = e })
   goes long false e = ends e long (ltb (length stream) (4 + length_field stream)) refl
 
-  on : (b : Bool) → ltb (length stream) 4 ≡ b → Front limit stream
+  on : (b : Bool) → ltb (length stream) 4 ≡ b → FirstFrame limit stream
   on true e = partial (inl (ltb-true _ _ e))
   on false e = goes (ltb-false _ _ e) (is_bad_length limit (length_field stream)) refl

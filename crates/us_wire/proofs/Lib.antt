@@ -1,6 +1,6 @@
 pub mod Fronts
 pub mod Readers
-pub mod Spelled
+pub mod Encoded
 pub mod Pieces
 pub mod Combined
 pub mod WholeFrames

@@ -6,15 +6,15 @@ use Rattle.us_wire.specs.Frames.{Reader, Frames, frames_of, fed, stops, in_front
 use Rattle.us_wire.specs.declared.frames.Next.{Next}
 use Rattle.us_wire.specs.declared.frames.Next.TheVariants as next
 use Rattle.us_wire.specs.Answers.{Answers}
-use Rattle.us_wire.specs.Runs.{answer_of, Action, feeds, asks, Answer, frame, not_yet, bad_length, first_of, next_of, after, answers, reader_after, frames_in, stream_of, fresh, joined, Ends, AreFrames, StreamsHaveFrames, PiecesDoNotMatter}
-use Rattle.us_wire.proofs.Fronts.{at_partial, at_bad, at_frame, stays_bad, frame_is_long, Front, front_of, partial, bad, whole}
+use Rattle.us_wire.specs.Runs.{answer_of, Action, feeds, polls, Answer, frame, not_yet, bad_length, first_of, next_of, after, answers, reader_after, frames_in, stream_of, fresh, joined, Ends, AreFrames, StreamsHaveFrames, PiecesDoNotMatter}
+use Rattle.us_wire.proofs.Fronts.{at_partial, at_bad, at_frame, stays_bad, frame_is_long, FirstFrame, first_frame, partial, bad, whole}
 
 -- frames in front of others
 abbrev pub behind : List (List ℕ) → Frames → Frames
 behind front fs = record { whole = front ++ fs.whole; rest = fs.rest; bad = fs.bad }
 
 -- however the stream goes on, its frames are those that were given and then those of the unread stream
-pub record GoesOn (limit : ℕ) (stream : List ℕ) (given : List (List ℕ)) (unread : List ℕ) : Type 0 where
+pub record Continues (limit : ℕ) (stream : List ℕ) (given : List (List ℕ)) (unread : List ℕ) : Type 0 where
   pub goes : (more : List ℕ) → frames_of limit (stream ++ more) ≡ behind given (frames_of limit (unread ++ more))
 
 next_at : (r : Reader) (fs : Frames) → frames_of r.limit r.unread ≡ fs → next_of r ≡ first_of fs.whole fs.bad
@@ -23,7 +23,7 @@ next_at r fs e = ap (λ (x : Frames). first_of x.whole x.bad) e
 -- the state of a run
 record Run (limit : ℕ) (stream : List ℕ) (given : List (List ℕ)) (r : Reader) : Type 0 where
   pub limit_is : r.limit ≡ limit
-  pub on : GoesOn limit stream given r.unread
+  pub on : Continues limit stream given r.unread
 
 run_feed : (limit : ℕ) (stream : List ℕ) (given : List (List ℕ)) (r : Reader) (piece : List ℕ) → Run limit stream given r → Run limit (stream ++ piece) given (fed r piece)
 run_feed limit stream given r piece run = record {
@@ -55,7 +55,7 @@ first_of_frame : (r : Reader) (bytes rest : List ℕ) → r.unread ≡ bytes ++ 
 first_of_frame r bytes rest parts is = next_at r (in_front bytes (frames_of r.limit rest)) (ap (frames_of r.limit) parts ∙ at_frame r.limit bytes rest is)
 
 -- one frame is asked for, and then the other actions come
-asked : (limit : ℕ) (actions : List Action) (stream : List ℕ) (given : List (List ℕ)) (r : Reader) → Front r.limit r.unread → Run limit stream given r
+asked : (limit : ℕ) (actions : List Action) (stream : List ℕ) (given : List (List ℕ)) (r : Reader) → FirstFrame r.limit r.unread → Run limit stream given r
     → ((given' : List (List ℕ)) (r' : Reader) → Run limit stream given' r' → Run limit (stream ++ stream_of actions) (given' ++ frames_in (answers r' actions)) (reader_after r' actions))
     → Run limit (stream ++ stream_of actions) (given ++ frames_in (next_of r ∷ answers (after (next_of r) r) actions)) (reader_after (after (next_of r) r) actions)
 asked limit actions stream given r (partial p) run go_on =
@@ -78,7 +78,7 @@ runs limit [] stream given r run =
 runs limit (feeds piece ∷ actions) stream given r run =
     subst (λ (xs : List ℕ). Run limit xs (given ++ frames_in (answers (fed r piece) actions)) (reader_after (fed r piece) actions)) (append_assoc stream piece (stream_of actions))
     (runs limit actions (stream ++ piece) given (fed r piece) (run_feed limit stream given r piece run))
-runs limit (asks ∷ actions) stream given r run = asked limit actions stream given r (front_of r.limit r.unread) run (λ given' r'. runs limit actions stream given' r')
+runs limit (polls ∷ actions) stream given r run = asked limit actions stream given r (first_frame r.limit r.unread) run (λ given' r'. runs limit actions stream given' r')
 
 begun : (limit : ℕ) → Run limit [] [] (fresh limit)
 begun limit = record { limit_is = refl; on = record { goes = λ more. refl } }
@@ -107,7 +107,7 @@ none_left r (inr e) = none_bad (frames_of r.limit r.unread).whole (frames_of r.l
 
 -- ---- a bad length field
 
-is_bad_at : (r : Reader) → Front r.limit r.unread → next_of r ≡ bad_length → HasBadLength r.limit r.unread
+is_bad_at : (r : Reader) → FirstFrame r.limit r.unread → next_of r ≡ bad_length → HasBadLength r.limit r.unread
 is_bad_at r (partial p) e = absurd (let clash : not_yet ≡ bad_length = sym (first_of_nothing r p) ∙ e in cc)
 is_bad_at r (bad b) e = b
 is_bad_at r (whole bytes rest parts is) e = absurd (let clash : frame bytes ≡ bad_length = sym (first_of_frame r bytes rest parts is) ∙ e in cc)
@@ -115,7 +115,7 @@ is_bad_at r (whole bytes rest parts is) e = absurd (let clash : frame bytes ≡ 
 bad_for_good : (r : Reader) (actions : List Action) → HasBadLength r.limit r.unread → AllByRecursion (λ answer. answer ≡ bad_length) (answers r actions) × (next_of (reader_after r actions) ≡ bad_length)
 bad_for_good r [] b = (tt, first_of_bad r b)
 bad_for_good r (feeds piece ∷ actions) b = bad_for_good (fed r piece) actions (stays_bad r.limit r.unread piece b)
-bad_for_good r (asks ∷ actions) b =
+bad_for_good r (polls ∷ actions) b =
     let e = first_of_bad r b in
     let more = bad_for_good r actions b in
     subst (λ (a : Answer). AllByRecursion (λ answer. answer ≡ bad_length) (a ∷ answers (after a r) actions) × (next_of (reader_after (after a r) actions) ≡ bad_length)) (sym e) ((refl, more.0), more.1)
@@ -127,7 +127,7 @@ pieces_do_not_matter = record {
       let r = reader_after (fresh limit) actions in
       let given = frames_in (answers (fresh limit) actions) in
       ap (λ (fs : Frames). fs.whole) (whole_of_run limit actions) ∙ ap (λ (ws : List (List ℕ)). given ++ ws) (none_left r stop) ∙ append-nil given;
-  for_good = λ r actions e. bad_for_good r actions (is_bad_at r (front_of r.limit r.unread) e);
+  for_good = λ r actions e. bad_for_good r actions (is_bad_at r (first_frame r.limit r.unread) e);
 }
 
 -- ---- each stream has its frames and no others
@@ -143,7 +143,7 @@ are_one_more limit stream bytes rest fs parts is others = record {
   ends = others.ends;
 }
 
-found_at : (limit : ℕ) (stream : List ℕ) → Front limit stream → ((rest : List ℕ) → length rest < length stream → AreFrames limit rest (frames_of limit rest)) → AreFrames limit stream (frames_of limit stream)
+found_at : (limit : ℕ) (stream : List ℕ) → FirstFrame limit stream → ((rest : List ℕ) → length rest < length stream → AreFrames limit rest (frames_of limit rest)) → AreFrames limit stream (frames_of limit stream)
 found_at limit stream (partial p) shorter = are_stopped limit stream false p (at_partial limit stream p)
 found_at limit stream (bad b) shorter = are_stopped limit stream true b (at_bad limit stream b)
 found_at limit stream (whole bytes rest parts is) shorter =
@@ -154,7 +154,7 @@ found_at limit stream (whole bytes rest parts is) shorter =
 
 found_within : (n limit : ℕ) (stream : List ℕ) → length stream < n → AreFrames limit stream (frames_of limit stream)
 found_within zero limit stream short = absurd (omega arith)
-found_within (suc n) limit stream short = found_at limit stream (front_of limit stream) (λ rest shorter. found_within n limit rest (omega arith))
+found_within (suc n) limit stream short = found_at limit stream (first_frame limit stream) (λ rest shorter. found_within n limit rest (omega arith))
 
 only_these : (limit : ℕ) (ws : List (List ℕ)) (rest : List ℕ) (is_bad : Bool) → AllByRecursion (IsFrame limit) ws → Ends limit rest is_bad → behind ws (stops rest is_bad) ≡ frames_of limit (joined ws ++ rest)
 only_these limit [] rest false each ends = sym (at_partial limit rest ends)

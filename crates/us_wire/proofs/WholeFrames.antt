@@ -5,27 +5,27 @@ use Rattle.std.proofs.lemmas.Bool.{eqb-true, eq-eqb, cond-true}
 use Rattle.std.proofs.lemmas.List.{drop_at}
 use Rattle.std.proofs.Math.Seq.{drop-length}
 use Rattle.us_wire.specs.Fields.{StandsAt, AreBytes, number_at, ReadsNumbers}
-use Rattle.us_wire.specs.Readings.{Reading, and_then, number_between_at, Reads, ReadsOn}
-use Rattle.us_wire.specs.Whole.{frame_spelling, tag_at, sized, opened, ending, frame_of, ReadsFrames, IsShort}
-use Rattle.us_wire.proofs.Spelled.{Stands-then, Stands-first, some, wide32, reads_numbers}
+use Rattle.us_wire.specs.Decoders.{Decoder, and_then, number_between_at, IsCodec, IsCodecWithin}
+use Rattle.us_wire.specs.Whole.{frame_encoding, tag_at, sized, opened, ending, frame_of, IsFrameCodec, IsShort}
+use Rattle.us_wire.proofs.Encoded.{Stands-then, Stands-first, some, wide32, reads_numbers}
 use Rattle.us_wire.proofs.Combined.{on, reads, reads_then, reads_byte, refit, found_one, Stands-nothing}
 
 -- a version, a tag and fields that depend on it
-abbrev pub tagged_at : {A : Type 0} → (ℕ → Reading A) → Reading A
+abbrev pub tagged_at : {A : Type 0} → (ℕ → Decoder A) → Decoder A
 tagged_at fields input at = and_then (number_between_at w8 1 1 input at) (λ version at'. and_then (number_between_at w8 0 255 input at') (λ tag next. fields tag input next))
 
 -- the version, the tag and the fields
-pub reads_tagged : {A : Type 0} (tag : A → ℕ) (F : A → Type 0) (s : A → List ℕ) (fields : ℕ → Reading A) → ((a : A) → tag a ≤ 255) → ((n : ℕ) → ReadsOn (λ a. (tag a ≡ n) × F a) s (fields n))
-    → Reads F (λ a. 1 ∷ tag a ∷ s a) (tagged_at fields)
+pub reads_tagged : {A : Type 0} (tag : A → ℕ) (F : A → Type 0) (s : A → List ℕ) (fields : ℕ → Decoder A) → ((a : A) → tag a ≤ 255) → ((n : ℕ) → IsCodecWithin (λ a. (tag a ≡ n) × F a) s (fields n))
+    → IsCodec F (λ a. 1 ∷ tag a ∷ s a) (tagged_at fields)
 reads_tagged {A = A} tag F s fields small law =
     let IsTag : ℕ → Type 0 = λ n. (0 ≤ n) × (n ≤ 255) in
     let IsVersion : ℕ → Type 0 = λ n. (1 ≤ n) × (n ≤ 1) in
-    let behind : Reading A = λ input at. and_then (number_between_at w8 0 255 input at) (λ n next. fields n input next) in
-    let body : Reads (λ a. IsTag (tag a) × F a) (λ a. (tag a ∷ []) ++ s a) behind =
+    let behind : Decoder A = λ input at. and_then (number_between_at w8 0 255 input at) (λ n next. fields n input next) in
+    let body : IsCodec (λ a. IsTag (tag a) × F a) (λ a. (tag a ∷ []) ++ s a) behind =
     reads_then IsTag (λ n. n ∷ []) (number_between_at w8 0 255) tag F s fields (reads_byte 0 255 (omega arith)) (λ n f. law n) in
-    let turned : (v : ℕ) → IsVersion v → Reads (λ a. (1 ≡ v) × F a) (λ a. tag a ∷ s a) behind = λ v is. refit _ _ _ _ behind body
+    let turned : (v : ℕ) → IsVersion v → IsCodec (λ a. (1 ≡ v) × F a) (λ a. tag a ∷ s a) behind = λ v is. refit _ _ _ _ behind body
     (λ a f. (omega (arith, is.0, is.1), f.1)) (λ a f. ((omega arith, small a), f.1)) (λ a f. refl) in
-    let whole : Reads (λ a. IsVersion 1 × F a) (λ a. (1 ∷ []) ++ (tag a ∷ s a)) (tagged_at fields) =
+    let whole : IsCodec (λ a. IsVersion 1 × F a) (λ a. (1 ∷ []) ++ (tag a ∷ s a)) (tagged_at fields) =
     reads_then IsVersion (λ n. n ∷ []) (number_between_at w8 1 1) (λ a. 1) F (λ a. tag a ∷ s a) (λ v. behind) (reads_byte 1 1 (omega arith)) (λ v is. on _ _ _ (turned v is)) in
     refit _ F _ (λ a. 1 ∷ tag a ∷ s a) (tagged_at fields) whole (λ a f. f.1) (λ a f. ((omega arith, omega arith), f)) (λ a f. refl)
 
@@ -45,22 +45,22 @@ guarded : {A : Type 0} (b : Bool) (x : Option A) (y : A) → cond b x None ≡ S
 guarded true x y e = (refl, e)
 guarded false x y e = absurd (cc)
 
--- a frame's spelling begins with its length field, and the fields stand behind that
-front_of_frame : (tag : ℕ) (fields x : List ℕ) → StandsAt (to_be_bytes w32 (length fields + 2)) (frame_spelling tag fields ++ x) 0 4 × StandsAt (1 ∷ tag ∷ fields) (frame_spelling tag fields ++ x) 4 (6 + length fields)
+-- a frame's encoding begins with its length field, and the fields stand behind that
+front_of_frame : (tag : ℕ) (fields x : List ℕ) → StandsAt (to_be_bytes w32 (length fields + 2)) (frame_encoding tag fields ++ x) 0 4 × StandsAt (1 ∷ tag ∷ fields) (frame_encoding tag fields ++ x) 4 (6 + length fields)
 front_of_frame tag fields x =
-    let whole = stands_front (frame_spelling tag fields) x in
-    let parts = Stands-first (to_be_bytes w32 (length fields + 2)) (1 ∷ tag ∷ fields) (frame_spelling tag fields ++ x) 0 (length (frame_spelling tag fields)) whole in
-    let end : length (frame_spelling tag fields) ≡ 6 + length fields = omega arith in
-    (parts.0, subst (λ (k : ℕ). StandsAt (1 ∷ tag ∷ fields) (frame_spelling tag fields ++ x) 4 k) end parts.1)
+    let whole = stands_front (frame_encoding tag fields) x in
+    let parts = Stands-first (to_be_bytes w32 (length fields + 2)) (1 ∷ tag ∷ fields) (frame_encoding tag fields ++ x) 0 (length (frame_encoding tag fields)) whole in
+    let end : length (frame_encoding tag fields) ≡ 6 + length fields = omega arith in
+    (parts.0, subst (λ (k : ℕ). StandsAt (1 ∷ tag ∷ fields) (frame_encoding tag fields ++ x) 4 k) end parts.1)
 
-pub reads_frames : {A : Type 0} (tag : A → ℕ) (F G : A → Type 0) (s : A → List ℕ) (fields : ℕ → Reading A) → Reads F (λ a. 1 ∷ tag a ∷ s a) (tagged_at fields)
-    → ((a : A) → IsShort (s a) → F a → G a) → ((a : A) → G a → F a × IsShort (s a)) → ReadsFrames G (λ a. frame_spelling (tag a) (s a)) (frame_of fields)
+pub reads_frames : {A : Type 0} (tag : A → ℕ) (F G : A → Type 0) (s : A → List ℕ) (fields : ℕ → Decoder A) → IsCodec F (λ a. 1 ∷ tag a ∷ s a) (tagged_at fields)
+    → ((a : A) → IsShort (s a) → F a → G a) → ((a : A) → G a → F a × IsShort (s a)) → IsFrameCodec G (λ a. frame_encoding (tag a) (s a)) (frame_of fields)
 unfolding frame_of opened
 reads_frames {A = A} tag F G s fields law to back = record {
   found = λ frame a are e. on_length frame a are (number_at w32 frame 0) refl (sym (regrouped frame (number_at w32 frame 0)) ∙ e);
   again = λ a fits.
       let f = back a fits in
-      let frame = frame_spelling (tag a) (s a) in
+      let frame = frame_encoding (tag a) (s a) in
       let front = front_of_frame (tag a) (s a) [] in
       let same : frame ++ [] ≡ frame = append-nil frame in
       let length_field = subst (λ (w : List ℕ). StandsAt (to_be_bytes w32 (length (s a) + 2)) w 0 4) same front.0 in
@@ -72,12 +72,12 @@ reads_frames {A = A} tag F G s fields law to back = record {
   none_begins_another = λ a b x y f g e.
       let p = front_of_frame (tag a) (s a) x in
       let q = front_of_frame (tag b) (s b) y in
-      let input = frame_spelling (tag a) (s a) ++ x in
+      let input = frame_encoding (tag a) (s a) ++ x in
       let there : StandsAt (1 ∷ tag b ∷ s b) input 4 (6 + length (s b)) = subst (λ (w : List ℕ). StandsAt (1 ∷ tag b ∷ s b) w 4 (6 + length (s b))) (sym e) q.1 in
       let one = found_one a b (6 + length (s a)) (6 + length (s b)) (sym (law.again input 4 a (6 + length (s a)) (back a f).0 p.1) ∙ law.again input 4 b (6 + length (s b)) (back b g).0 there) in
-      let long : length (frame_spelling (tag a) (s a)) ≡ 6 + length (s a) = omega arith in
-      let long' : length (frame_spelling (tag b) (s b)) ≡ 6 + length (s a) = omega (arith, one.1) in
-      (one.0, sym (drop_at (frame_spelling (tag a) (s a)) x (6 + length (s a)) long) ∙ ap (drop (6 + length (s a))) e ∙ drop_at (frame_spelling (tag b) (s b)) y (6 + length (s a)) long');
+      let long : length (frame_encoding (tag a) (s a)) ≡ 6 + length (s a) = omega arith in
+      let long' : length (frame_encoding (tag b) (s b)) ≡ 6 + length (s a) = omega (arith, one.1) in
+      (one.0, sym (drop_at (frame_encoding (tag a) (s a)) x (6 + length (s a)) long) ∙ ap (drop (6 + length (s a))) e ∙ drop_at (frame_encoding (tag b) (s b)) y (6 + length (s a)) long');
 }
   where
     numbers : ReadsNumbers w32
@@ -87,7 +87,7 @@ reads_frames {A = A} tag F G s fields law to back = record {
     some_is x y e = cc
 
     at_end : (frame : List ℕ) (a : A) → AreBytes frame → (rest : ℕ) → StandsAt (to_be_bytes w32 rest) frame 0 4 → rest < 2 ^ 32 → 4 + rest ≡ length frame → (o : Option (A × ℕ)) → tagged_at fields frame 4 ≡ o → ending frame o ≡ Some a
-        → (frame ≡ frame_spelling (tag a) (s a)) × G a
+        → (frame ≡ frame_encoding (tag a) (s a)) × G a
     at_end frame a are rest front few all None is e = absurd (cc)
     at_end frame a are rest front few all (Some (c, next)) is e =
         let g = guarded (next == length frame) (Some c) a e in
@@ -96,9 +96,9 @@ reads_frames {A = A} tag F G s fields law to back = record {
         let f = law.found frame 4 c next are is in
         let long : rest ≡ length (s c) + 2 = omega (arith, f.0.next_is) in
         let whole = Stands-then (to_be_bytes w32 rest) (1 ∷ tag c ∷ s c) frame 0 4 next front f.0 in
-        let spelled : frame ≡ frame_spelling (tag c) (s c) = stands_whole _ frame next end whole ∙ ap (λ (k : ℕ). to_be_bytes w32 k ++ (1 ∷ tag c ∷ s c)) long in
+        let encoded : frame ≡ frame_encoding (tag c) (s c) = stands_whole _ frame next end whole ∙ ap (λ (k : ℕ). to_be_bytes w32 k ++ (1 ∷ tag c ∷ s c)) long in
         let fits : G c = to c (record { short = omega arith }) f.1 in
-        subst (λ (d : A). (frame ≡ frame_spelling (tag d) (s d)) × G d) same (spelled, fits)
+        subst (λ (d : A). (frame ≡ frame_encoding (tag d) (s d)) × G d) same (encoded, fits)
 
     regrouped : (frame : List ℕ) (o : Option (ℕ × ℕ)) → ending frame (and_then (sized frame (λ at. tag_at frame at) o) (λ n at. fields n frame at)) ≡ sized frame (λ at. ending frame (tagged_at fields frame at)) o
     regrouped frame None = refl
@@ -110,7 +110,7 @@ reads_frames {A = A} tag F G s fields law to back = record {
         tested true (Some (version, next)) = refl
         tested false o = refl
 
-    on_length : (frame : List ℕ) (a : A) → AreBytes frame → (o : Option (ℕ × ℕ)) → number_at w32 frame 0 ≡ o → sized frame (λ at. ending frame (tagged_at fields frame at)) o ≡ Some a → (frame ≡ frame_spelling (tag a) (s a)) × G a
+    on_length : (frame : List ℕ) (a : A) → AreBytes frame → (o : Option (ℕ × ℕ)) → number_at w32 frame 0 ≡ o → sized frame (λ at. ending frame (tagged_at fields frame at)) o ≡ Some a → (frame ≡ frame_encoding (tag a) (s a)) × G a
     on_length frame a are None is e = absurd (cc)
     on_length frame a are (Some (rest, at)) is e =
         let n = numbers.found frame 0 rest at are is in

@@ -2,5 +2,5 @@ pub mod Frames
 pub mod Answers
 pub mod Fields
 pub mod Runs
-pub mod Readings
+pub mod Decoders
 pub mod Whole

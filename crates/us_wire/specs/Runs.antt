@@ -8,7 +8,7 @@ use Rattle.us_wire.specs.Frames.{Reader, Frames, frames_of, fed, IsFrame, IsPart
 -- a piece of the stream comes, or the next frame is asked for
 pub data Action : Type 0 where
   feeds : List ℕ → Action
-  asks : Action
+  polls : Action
 
 pub data Answer : Type 0 where
   frame : List ℕ → Answer
@@ -40,13 +40,13 @@ after bad_length r = r
 abbrev pub answers : Reader → List Action → List Answer
 answers r [] = []
 answers r (feeds piece ∷ actions) = answers (fed r piece) actions
-answers r (asks ∷ actions) = next_of r ∷ answers (after (next_of r) r) actions
+answers r (polls ∷ actions) = next_of r ∷ answers (after (next_of r) r) actions
 
 -- the reader behind the actions
 abbrev pub reader_after : Reader → List Action → Reader
 reader_after r [] = r
 reader_after r (feeds piece ∷ actions) = reader_after (fed r piece) actions
-reader_after r (asks ∷ actions) = reader_after (after (next_of r) r) actions
+reader_after r (polls ∷ actions) = reader_after (after (next_of r) r) actions
 
 -- the frames among the answers
 abbrev pub frames_in : List Answer → List (List ℕ)
@@ -59,7 +59,7 @@ frames_in (bad_length ∷ others) = frames_in others
 abbrev pub stream_of : List Action → List ℕ
 stream_of [] = []
 stream_of (feeds piece ∷ actions) = piece ++ stream_of actions
-stream_of (asks ∷ actions) = stream_of actions
+stream_of (polls ∷ actions) = stream_of actions
 
 -- a reader that was fed nothing
 abbrev pub fresh : ℕ → Reader
@@ -89,16 +89,18 @@ pub record StreamsHaveFrames : Type 0 where
   pub only : (limit : ℕ) (stream : List ℕ) (frames : Frames) → AreFrames limit stream frames → frames ≡ frames_of limit stream
 
 -- the frames that came and the frames still to come
-pub record IsFront (limit : ℕ) (actions : List Action) : Type 0 where
+pub record AreFirstFrames (limit : ℕ) (actions : List Action) : Type 0 where
   pub others : List (List ℕ)
   pub whole : (frames_of limit (stream_of actions)).whole ≡ frames_in (answers (fresh limit) actions) ++ others
 
 -- however the stream was cut, and whenever frames were asked for
 pub record PiecesDoNotMatter : Type 0 where
   -- the frames that were given are the first of the stream
-  pub front : (limit : ℕ) (actions : List Action) → IsFront limit actions
+  pub front : (limit : ℕ) (actions : List Action) → AreFirstFrames limit actions
   -- and all of them where none is left to be given
-  pub all : (limit : ℕ) (actions : List Action) → (next_of (reader_after (fresh limit) actions) ≡ not_yet) ⊎ (next_of (reader_after (fresh limit) actions) ≡ bad_length)
+  pub all : (limit : ℕ) (actions : List Action)
+      → (next_of (reader_after (fresh limit) actions) ≡ not_yet) ⊎ (next_of (reader_after (fresh limit) actions) ≡ bad_length)
       → (frames_of limit (stream_of actions)).whole ≡ frames_in (answers (fresh limit) actions)
   -- a bad length field is answered for good
-  pub for_good : (r : Reader) (actions : List Action) → next_of r ≡ bad_length → AllByRecursion (λ answer. answer ≡ bad_length) (answers r actions) × (next_of (reader_after r actions) ≡ bad_length)
+  pub for_good : (r : Reader) (actions : List Action) → next_of r ≡ bad_length
+      → AllByRecursion (λ answer. answer ≡ bad_length) (answers r actions) × (next_of (reader_after r actions) ≡ bad_length)

@@ -73,10 +73,10 @@ impl FrameReader {
         ensures err { OnErr result (self.new ≡ self.old) }
     {
         let unread = &self.buffer[self.start..];
-        let whole = match front_of(self.limit, unread) {
-            Front::Partial => return Ok(Next::NotYet),
-            Front::Bad => return Ok(Next::BadLength),
-            Front::Whole(whole) => whole,
+        let whole = match first_frame(self.limit, unread) {
+            FirstFrame::Partial => return Ok(Next::NotYet),
+            FirstFrame::Bad => return Ok(Next::BadLength),
+            FirstFrame::Whole(whole) => whole,
         };
         let frame = Bytes::from_slice(*self.buffer.allocator(), &unread[..whole])?;
         self.start += whole;
@@ -99,7 +99,7 @@ impl FrameReader {
 }
 
 /// How a stream begins.
-enum Front {
+enum FirstFrame {
     /// With less than a whole frame.
     Partial,
     /// With a bad length field.
@@ -109,18 +109,18 @@ enum Front {
 }
 
 /// How the stream begins, where frames have at most `limit` bytes.
-fn front_of(limit: u32, stream: &[u8]) -> Front
+fn first_frame(limit: u32, stream: &[u8]) -> FirstFrame
     ensures { Begins result limit stream.now }
 {
     let Some((after, _)) = take_u32(stream, 0) else {
-        return Front::Partial;
+        return FirstFrame::Partial;
     };
     if after < 2 || u64::from(limit) < 4 + u64::from(after) {
-        return Front::Bad;
+        return FirstFrame::Bad;
     }
     let whole = 4 + after as usize;
     if stream.len() < whole {
-        return Front::Partial;
+        return FirstFrame::Partial;
     }
-    Front::Whole(whole)
+    FirstFrame::Whole(whole)
 }

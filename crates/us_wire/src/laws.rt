@@ -1,7 +1,7 @@
 //! Laws of the definitions that the contracts cite: each is a function whose contract says it.
 ghost use Rattle.std.specs.Int.{w8, w16, w32, w64, w128};
 ghost use Rattle.us_wire.specs.Fields.{ReadsIntegers, ReadsNumbers, ReadsValues};
-ghost use Rattle.us_wire.specs.Readings.{ReadsBetween};
+ghost use Rattle.us_wire.specs.Decoders.{ReadsBetween};
 ghost use Rattle.us_wire.specs.Runs.{PiecesDoNotMatter, StreamsHaveFrames};
 
 /// Each stream is its whole frames and a rest that begins with none, in one way.
@@ -15,8 +15,8 @@ pub fn pieces_do_not_matter()
     ensures { PiecesDoNotMatter }
 {}
 
-/// What is read as a field is spelled so, and what is spelled so is read, whatever follows it.
-pub fn fields_are_read_as_spelled()
+/// What is read as a field is encoded so, and what is encoded so is read, whatever follows it.
+pub fn fields_are_read_as_encoded()
     ensures bytes { ReadsNumbers w8 }
     ensures pairs { ReadsNumbers w16 }
     ensures fours { ReadsNumbers w32 }
@@ -26,8 +26,8 @@ pub fn fields_are_read_as_spelled()
     ensures values { ReadsValues }
 {}
 
-/// A number within bounds is read as it is spelled; none is read where none within the bounds stands.
-pub fn bounded_numbers_are_read_as_spelled()
+/// A number within bounds is read as it is encoded; none is read where none within the bounds stands.
+pub fn bounded_numbers_are_read_as_encoded()
     ensures bytes { ReadsBetween w8 }
     ensures eights { ReadsBetween w64 }
 {}

@@ -1,7 +1,7 @@
 ghost use Rattle.std.specs.Prelude.{◌≡◌, option_map};
 ghost use Rattle.std.specs.Int.{w8, w16, w32, w64, w128};
 ghost use Rattle.us_wire.specs.Fields.{number_at, integer_at, value_at};
-ghost use Rattle.us_wire.specs.Readings.{number_between_at, largest_number};
+ghost use Rattle.us_wire.specs.Decoders.{number_between_at, largest_number};
 
 use crate::{LARGEST_NUMBER, LONGEST_VALUE};
 
@@ -66,7 +66,7 @@ pub fn take_value(input: &[u8], at: usize) -> Option<(&[u8], usize)>
 }
 
 /// A byte from `least` to `most`, and the place behind it.
-#[tactic(auto, unfolding(crate::specs::Readings::number_between_at))]
+#[tactic(auto, unfolding(crate::specs::Decoders::number_between_at))]
 pub fn take_u8_between(input: &[u8], at: usize, least: u8, most: u8) -> Option<(u8, usize)>
     ensures { result ≡ number_between_at w8 least most input.now at }
 {
@@ -78,7 +78,7 @@ pub fn take_u8_between(input: &[u8], at: usize, least: u8, most: u8) -> Option<(
 }
 
 /// A number of eight bytes, at least `least` and at most 2^62, and the place behind it.
-#[tactic(auto, unfolding(crate::specs::Readings::number_between_at))]
+#[tactic(auto, unfolding(crate::specs::Decoders::number_between_at))]
 pub fn take_number(input: &[u8], at: usize, least: u64) -> Option<(u64, usize)>
     ensures { result ≡ number_between_at w64 least largest_number input.now at }
 {

@@ -3,14 +3,14 @@ use Rattle.std.proofs.Common.{◌≡◌, ◌∙◌, inl, inr, ◌<◌, List, [],
 use Rattle.std.specs.Prelude.{◌&&◌, ◌||◌, not, nat_lt}
 use Rattle.std.specs.List.{list_all}
 use Rattle.std.proofs.lemmas.Bool.{and_parts, eqb-true, lt-ltb, ltb-true}
-use Rattle.us_kind.specs.Words.{In, tid_eq}
+use Rattle.us_kind.specs.Comparison.{In, tid_eq}
 use Rattle.us_kind.proofs.TestLemmas.{tid_eq-same}
 use Rattle.us_base.specs.Vector.{at_most}
 use Rattle.us_exec.specs.Past.{session_eq}
 use Rattle.us_history.specs.Histories.{Begun, Committed, History, has_own_vector}
 use Rattle.us_snapshots.specs.Ascending.{Ascends, IsNotInItsOwn}
 use Rattle.us_snapshots.proofs.Tests.{session_eq-same}
-use Rattle.us_world.specs.ByHand.{ascend_by_number, stays_out, all_stay_out, ascends}
+use Rattle.us_world.specs.AscendingCheck.{ascend_by_number, stays_out, all_stay_out, ascends}
 
 -- a list without items
 no-items : {X : Type 0} (xs : List X) → length xs ≡ 0 → xs ≡ []

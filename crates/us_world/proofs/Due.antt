@@ -8,7 +8,7 @@ use Rattle.std.proofs.lemmas.Bool.{cond-true, cond-false}
 use Rattle.std.proofs.lemmas.Bool.Decides.{nat_tests}
 use Rattle.us_model.specs.Worlds.{World, is_delivered, is_due as is_waiting, least_due, least_undelivered}
 use Rattle.us_world.specs.declared.world.Sent.{Sent}
-use Rattle.us_world.specs.Kept.{Kept, StandsFor, packet_of, is_marked, is_marked_at, is_due, is_due_of, is_due_at, NoneDue, AllMarked}
+use Rattle.us_world.specs.WorldState.{WorldState, Represents, packet_of, is_marked, is_marked_at, is_due, is_due_of, is_due_at, NoneDue, AllMarked}
 
 same-test : (a b d e : Bool) → d ≡ e → (a && (b && not d)) ≡ ((a && b) && not e)
 same-test true true d e h = ap not h
@@ -53,12 +53,12 @@ not-due from to sent i h = on (slice_get sent i) h
     on None h = refl
     on (Some s) h = and-not _ s.delivered h
 
-marks-of : (k : Kept) (w : World) → StandsFor k w → Marks w.delivered 1 k.sent
+marks-of : (k : WorldState) (w : World) → Represents k w → Marks w.delivered 1 k.sent
 marks-of k w h i n e =
     let same : n ≡ i + 1 = omega arith in
     ap (is_delivered w.delivered) same ∙ h.marked i
 
-before-due : (k : Kept) (w : World) (from to end : ℕ) → StandsFor k w → NoneDue from to k.sent k.cursor end → (i : ℕ) → i < end
+before-due : (k : WorldState) (w : World) (from to end : ℕ) → Represents k w → NoneDue from to k.sent k.cursor end → (i : ℕ) → i < end
     → is_due_at from to k.sent i ≡ false
 before-due k w from to end h none i l = on (nat_lt i k.cursor) refl
   where
@@ -70,13 +70,13 @@ before-due k w from to end h none i l = on (nat_lt i k.cursor) refl
         let over : k.cursor ≤ i = grind (arith, nat_tests) in
         none i over l
 
-pub least_place : (k : Kept) (w : World) (from to place number : ℕ) → StandsFor k w → number ≡ place + 1 → is_due_at from to k.sent place ≡ true
+pub least_place : (k : WorldState) (w : World) (from to place number : ℕ) → Represents k w → number ≡ place + 1 → is_due_at from to k.sent place ≡ true
     → NoneDue from to k.sent k.cursor place → least_undelivered w from to ≡ Some number
 least_place k w from to place number h is hit none =
     ap (λ ps. least_due from to w.delivered 1 ps) h.packets
     ∙ least-at from to w.delivered 1 k.sent (marks-of k w h) place number (omega arith) hit (before-due k w from to place h none)
 
-pub no_least : (k : Kept) (w : World) (from to : ℕ) → StandsFor k w → NoneDue from to k.sent k.cursor (length k.sent) → least_undelivered w from to ≡ None
+pub no_least : (k : WorldState) (w : World) (from to : ℕ) → Represents k w → NoneDue from to k.sent k.cursor (length k.sent) → least_undelivered w from to ≡ None
 no_least k w from to h none =
     ap (λ ps. least_due from to w.delivered 1 ps) h.packets
     ∙ least-none from to w.delivered 1 k.sent (marks-of k w h) (before-due k w from to (length k.sent) h none)

@@ -5,32 +5,32 @@ use Rattle.std.proofs.lemmas.List.{length-map}
 use Rattle.std.specs.Prelude.{⊤}
 use Rattle.std.specs.List.{slice_get}
 use Rattle.us_model.specs.declared.event.Event.TheVariants as event
-use Rattle.us_model.specs.Worlds.{World, Happening, Comes, nth, happens, run, least_undelivered, Flushes}
+use Rattle.us_model.specs.Worlds.{World, WorldEvent, DeliverPacket, nth, world_step, run, least_undelivered, Flushes}
 use Rattle.us_world.specs.declared.world.Sent.{Sent}
 use Rattle.us_world.specs.declared.fault.WorldFault.{WorldFault}
 use Rattle.us_world.specs.declared.fault.WorldFault.TheVariants as fault
 use Rattle.us_world.specs.Limits.{Delivers, delivery_of}
-use Rattle.us_world.specs.Kept.{Kept, StandsFor, packet_of, is_due_at, NoneDue, HasSkipped, LimitSays, passed_by, marked, after_delivery}
-use Rattle.us_world.specs.Lines.{GoesBy, PassesBy, StoppedBy, IsDelivery}
+use Rattle.us_world.specs.WorldState.{WorldState, Represents, packet_of, is_due_at, NoneDue, HasSkipped, LimitSays, passed_by, marked, after_delivery}
+use Rattle.us_world.specs.Lines.{AdvancesBy, ExceedsBy, StoppedBy, IsDelivery}
 use Rattle.us_world.proofs.Standing.{nth-place, nth-outside, events-at, stands_delivery, stands_skipped}
 use Rattle.us_world.proofs.Due.{least_place, no_least}
-use Rattle.us_world.proofs.Happenings.{run-append, limit_after, limit_one, OneEvent}
+use Rattle.us_world.proofs.WorldEvents.{run-append, limit_after, limit_one, OneEvent}
 
-pub events-delivery : (place : ℕ) (s : Sent) (k : Kept) → (after_delivery place s k).events ≡ k.events + 1
+pub events-delivery : (place : ℕ) (s : Sent) (k : WorldState) → (after_delivery place s k).events ≡ k.events + 1
 events-delivery place s k = events-at (marked place s k) s.packet.to.site (event.Take s.packet)
 
 -- ONE DELIVERY
-pub one_delivery : (k : Kept) (place number : ℕ) (s : Sent) → slice_get k.sent place ≡ Some s → number ≡ place + 1
+pub one_delivery : (k : WorldState) (place number : ℕ) (s : Sent) → slice_get k.sent place ≡ Some s → number ≡ place + 1
     → OneEvent (IsDelivery number) k (after_delivery place s k)
 one_delivery k place number s at is = record {
-  happening = λ w. Comes number;
+  world_event = λ w. DeliverPacket number;
   is = λ w h. sym (ap (delivery_of number) (nth-place k w place number s h at is));
   stands = λ w h. stands_delivery k w place number s h at is;
   counts = events-delivery place s k;
 }
 
 -- nothing comes where fewer were sent
-pub no_delivery : (k : Kept) (number : ℕ) → (number ≡ 0) ⊎ (length k.sent < number) → GoesBy (IsDelivery number) k k
+pub no_delivery : (k : WorldState) (number : ℕ) → (number ≡ 0) ⊎ (length k.sent < number) → AdvancesBy (IsDelivery number) k k
 no_delivery k number out w h =
     let same : k.events ≡ k.events + 0 = omega arith in
     let few : (number ≡ 0) ⊎ (length (map packet_of k.sent) < number) = elim out [
@@ -42,33 +42,33 @@ no_delivery k number out w h =
     ([], sym (ap (delivery_of number) none), refl, h, same)
 
 -- A FLUSH FROM THE FRONT
-delivers-more : (from to : ℕ) (w : World) (hs : List Happening) (k : ℕ) → Delivers from to w hs → least_undelivered (run hs w) from to ≡ Some k
-    → Delivers from to w (hs ++ Comes k ∷ [])
+delivers-more : (from to : ℕ) (w : World) (hs : List WorldEvent) (k : ℕ) → Delivers from to w hs → least_undelivered (run hs w) from to ≡ Some k
+    → Delivers from to w (hs ++ DeliverPacket k ∷ [])
 delivers-more from to w [] k d e = ((k, e, refl), tt)
-delivers-more from to w (h ∷ hs) k d e = (d.0, delivers-more from to (happens w h) hs k d.1 e)
+delivers-more from to w (h ∷ hs) k d e = (d.0, delivers-more from to (world_step w h) hs k d.1 e)
 
-flushes : (from to : ℕ) (w : World) (hs : List Happening) → Delivers from to w hs → least_undelivered (run hs w) from to ≡ None → Flushes from to w hs
+flushes : (from to : ℕ) (w : World) (hs : List WorldEvent) → Delivers from to w hs → least_undelivered (run hs w) from to ≡ None → Flushes from to w hs
 flushes from to w [] d e = e
-flushes from to w (h ∷ hs) d e = (d.0, flushes from to (happens w h) hs d.1 e)
+flushes from to w (h ∷ hs) d e = (d.0, flushes from to (world_step w h) hs d.1 e)
 
 -- the next packet that is due
-pub record IsNext (from to : ℕ) (mid k : Kept) (place : ℕ) : Type 0 where
+pub record IsNext (from to : ℕ) (mid k : WorldState) (place : ℕ) : Type 0 where
   pub skipped : HasSkipped mid k
   pub due : is_due_at from to k.sent place ≡ true
   pub first : NoneDue from to k.sent k.cursor place
 
-events-skipped : (mid k : Kept) → HasSkipped mid k → k.events ≡ mid.events
-events-skipped mid k skip = ap (λ (m : Kept). m.events) skip.same
+events-skipped : (mid k : WorldState) → HasSkipped mid k → k.events ≡ mid.events
+events-skipped mid k skip = ap (λ (m : WorldState). m.events) skip.same
 
-pub delivered_none : (from to : ℕ) (k : Kept) → GoesBy (Delivers from to) k k
+pub delivered_none : (from to : ℕ) (k : WorldState) → AdvancesBy (Delivers from to) k k
 delivered_none from to k w h =
     let same : k.events ≡ k.events + 0 = omega arith in
     ([], tt, refl, h, same)
 
-pub delivered_more : (from to : ℕ) (old mid k new : Kept) (place : ℕ) (s : Sent) → GoesBy (Delivers from to) old mid → IsNext from to mid k place
-    → slice_get k.sent place ≡ Some s → new ≡ after_delivery place s k → passed_by (after_delivery place s k) ≡ None → GoesBy (Delivers from to) old new
+pub delivered_more : (from to : ℕ) (old mid k new : WorldState) (place : ℕ) (s : Sent) → AdvancesBy (Delivers from to) old mid → IsNext from to mid k place
+    → slice_get k.sent place ≡ Some s → new ≡ after_delivery place s k → passed_by (after_delivery place s k) ≡ None → AdvancesBy (Delivers from to) old new
 delivered_more from to old mid k new place s so next at is within =
-    subst (λ m. GoesBy (Delivers from to) old m) (sym is) (λ w h.
+    subst (λ m. AdvancesBy (Delivers from to) old m) (sym is) (λ w h.
     let was = so w h in
     let hs = was.0 in
     let v = run hs w in
@@ -80,16 +80,16 @@ delivered_more from to old mid k new place s so next at is within =
     let skipped = events-skipped mid k next.skipped in
     let before = was.4 in
     let front : k.events ≡ old.events + length hs = omega arith in
-    let all : kept.events ≡ old.events + length (hs ++ Comes (place + 1) ∷ []) = omega (arith, length-append hs (Comes (place + 1) ∷ [])) in (
-      hs ++ Comes (place + 1) ∷ [],
+    let all : kept.events ≡ old.events + length (hs ++ DeliverPacket (place + 1) ∷ []) = omega (arith, length-append hs (DeliverPacket (place + 1) ∷ [])) in (
+      hs ++ DeliverPacket (place + 1) ∷ [],
       delivers-more from to w hs (place + 1) was.1 least,
-      limit_after old.events k.events hs (Comes (place + 1) ∷ []) w None was.2 front (limit_one kept v (Comes (place + 1)) k.events None there events within),
-      subst (λ u. StandsFor kept u) (sym (run-append hs (Comes (place + 1) ∷ []) w)) there,
+      limit_after old.events k.events hs (DeliverPacket (place + 1) ∷ []) w None was.2 front (limit_one kept v (DeliverPacket (place + 1)) k.events None there events within),
+      subst (λ u. Represents kept u) (sym (run-append hs (DeliverPacket (place + 1) ∷ []) w)) there,
       all,
     ))
 
-delivered-past : (from to : ℕ) (old mid k : Kept) (place : ℕ) (s : Sent) (which : WorldFault) → GoesBy (Delivers from to) old mid → IsNext from to mid k place
-    → slice_get k.sent place ≡ Some s → passed_by (after_delivery place s k) ≡ Some which → PassesBy (Delivers from to) old which
+delivered-past : (from to : ℕ) (old mid k : WorldState) (place : ℕ) (s : Sent) (which : WorldFault) → AdvancesBy (Delivers from to) old mid → IsNext from to mid k place
+    → slice_get k.sent place ≡ Some s → passed_by (after_delivery place s k) ≡ Some which → ExceedsBy (Delivers from to) old which
 delivered-past from to old mid k place s which so next at past w h =
     let was = so w h in
     let hs = was.0 in
@@ -102,22 +102,22 @@ delivered-past from to old mid k place s which so next at past w h =
     let skipped = events-skipped mid k next.skipped in
     let before = was.4 in
     let front : k.events ≡ old.events + length hs = omega arith in (
-      hs ++ Comes (place + 1) ∷ [],
+      hs ++ DeliverPacket (place + 1) ∷ [],
       delivers-more from to w hs (place + 1) was.1 least,
-      limit_after old.events k.events hs (Comes (place + 1) ∷ []) w (Some which) was.2 front
-          (limit_one kept v (Comes (place + 1)) k.events (Some which) there events past),
+      limit_after old.events k.events hs (DeliverPacket (place + 1) ∷ []) w (Some which) was.2 front
+          (limit_one kept v (DeliverPacket (place + 1)) k.events (Some which) there events past),
     )
 
-pub delivered_stops : (e : WorldFault) (from to : ℕ) (old mid k : Kept) (place : ℕ) (s : Sent) → GoesBy (Delivers from to) old mid → IsNext from to mid k place
+pub delivered_stops : (e : WorldFault) (from to : ℕ) (old mid k : WorldState) (place : ℕ) (s : Sent) → AdvancesBy (Delivers from to) old mid → IsNext from to mid k place
     → slice_get k.sent place ≡ Some s → LimitSays {A = ⊤} (Err e) (passed_by (after_delivery place s k)) → StoppedBy (Delivers from to) old e
 delivered_stops fault.Memory from to old mid k place s so next at says = tt
 delivered_stops fault.Events from to old mid k place s so next at says = delivered-past from to old mid k place s fault.Events so next at says
 delivered_stops fault.Sessions from to old mid k place s so next at says = delivered-past from to old mid k place s fault.Sessions so next at says
 delivered_stops fault.Transactions from to old mid k place s so next at says = delivered-past from to old mid k place s fault.Transactions so next at says
 
-pub delivered_all : (from to : ℕ) (old mid new : Kept) → GoesBy (Delivers from to) old mid → HasSkipped mid new
+pub delivered_all : (from to : ℕ) (old mid new : WorldState) → AdvancesBy (Delivers from to) old mid → HasSkipped mid new
     → NoneDue from to new.sent new.cursor (length new.sent)
-    → GoesBy (Flushes from to) old new
+    → AdvancesBy (Flushes from to) old new
 delivered_all from to old mid new so skip none w h =
     let was = so w h in
     let v = run was.0 w in

@@ -1,4 +1,4 @@
--- The greatest number that passes a test, found by halves.
+-- The greatest number that passes a test, found by binary search.
 use Rattle.std.proofs.Common.{◌≡◌, ◌∙◌, inl, inr, ℕ, zero, suc, ◌+◌, ◌-◌, ◌<◌, ◌≤◌, List, [], ◌∷◌, length, Bool, true, false, cond, Some, map, max}
 use Rattle.std.proofs.Common.{refl, sym, ap, subst, arith, true≢false}
 use Rattle.std.specs.Prelude.{◌&&◌, ◌||◌, not, nat_lt, filter, slice_get, slice_index_or}
@@ -8,7 +8,7 @@ use Rattle.std.proofs.lemmas.Bool.Decides.{nat_tests}
 use Rattle.std.proofs.lemmas.Bool.{and_parts}
 use Rattle.std.proofs.lemmas.List.{length-map}
 use Rattle.std.proofs.lemmas.List.Elements.{filter_agree}
-use Rattle.us_kind.specs.Words.{In, tid_eq}
+use Rattle.us_kind.specs.Comparison.{In, tid_eq}
 use Rattle.us_kind.specs.Updates.{All, AllLater}
 use Rattle.us_kind.proofs.ListLemmas.{in_filter}
 use Rattle.us_kind.proofs.Members.{later_filter}
@@ -21,14 +21,14 @@ use Rattle.us_history.specs.Pasts.{count_of}
 use Rattle.us_snapshots.specs.Ascending.{SessionsAscend, IsNotInItsOwn, Ascends}
 use Rattle.us_history.specs.Histories.{of_session}
 use Rattle.us_history.specs.Pasts.{count_of}
-use Rattle.us_world.specs.Found.{leads_to}
+use Rattle.us_world.specs.PastSearch.{steps_to}
 use Rattle.us_snapshots.proofs.Numbers.{later_in, numbers_rise}
 use Rattle.us_snapshots.proofs.Tests.{session_eq-true, session_eq-same}
 use Rattle.us_kind.proofs.TestLemmas.{tid_eq-true}
 use Rattle.us_index.specs.Places.{places_of}
 use Rattle.us_world.specs.declared.commits.Group.{Group}
-use Rattle.us_world.specs.Found.{group_of, IsIndexed, updates_so, is_in_group, greatest, is_earlier, is_shown, is_earlier_of, is_shown_of}
-use Rattle.us_world.specs.Found.{IsSearchable, found_at, passes, number_of, greatest_found, StandsFirst, PassFirst}
+use Rattle.us_world.specs.PastSearch.{group_of, IsIndexed, updates_so, is_in_group, greatest, is_earlier, is_shown, is_earlier_of, is_shown_of}
+use Rattle.us_world.specs.PastSearch.{IsSearchable, found_at, passes, number_of, greatest_found, StandsFirst, PassFirst}
 
 -- EARLIER AND LATER ONES
 all_over : {X Y : Type 0} (P : Y → Type 0) (f : X → Y) (xs : List X) → All (λ x. P (f x)) xs → All P (map f xs)
@@ -284,17 +284,17 @@ earlier_both s seq cs =
     on true false e = refl
     on false u e = refl
 
-direct-is : (s : SessionName) (t : Begun) (cs : List Committed) → count_of (leads_to t) s cs ≡ greatest (λ c. session_eq c.begun.session s && leads_to t c) cs
+direct-is : (s : SessionName) (t : Begun) (cs : List Committed) → count_of (steps_to t) s cs ≡ greatest (λ c. session_eq c.begun.session s && steps_to t c) cs
 direct-is s t [] = refl
-direct-is s t (c ∷ cs) = ap (λ n. cond (session_eq c.begun.session s && leads_to t c) (max c.number n) n) (direct-is s t cs)
+direct-is s t (c ∷ cs) = ap (λ n. cond (session_eq c.begun.session s && steps_to t c) (max c.number n) n) (direct-is s t cs)
 
 less-self : (n : ℕ) → nat_lt n n ≡ false
 less-self n = grind (arith, nat_tests)
 
 -- the transaction itself is neither earlier nor shown
-leads-either : (cs : List Committed) (t : Begun) → IsNotInItsOwn cs t → (c : Committed) → In c cs
-    → leads_to t c ≡ ((session_eq c.begun.session t.session && nat_lt c.begun.tid.seq t.tid.seq) || (has_own_vector c && at_most c.vector t.snapshot))
-leads-either cs t others c i =
+is_step-either : (cs : List Committed) (t : Begun) → IsNotInItsOwn cs t → (c : Committed) → In c cs
+    → steps_to t c ≡ ((session_eq c.begun.session t.session && nat_lt c.begun.tid.seq t.tid.seq) || (has_own_vector c && at_most c.vector t.snapshot))
+is_step-either cs t others c i =
     on (tid_eq c.begun.tid t.tid) refl (session_eq c.begun.session t.session) (nat_lt c.begun.tid.seq t.tid.seq) refl (has_own_vector c) refl
     (at_most c.vector t.snapshot) refl
   where
@@ -312,14 +312,14 @@ leads-either cs t others c i =
     on true e false false f false g m k = refl
 
 direct-or : (s : SessionName) (t : Begun) (cs : List Committed) → IsNotInItsOwn cs t
-    → count_of (leads_to t) s cs ≡ max (greatest (λ c. session_eq c.begun.session s &&
+    → count_of (steps_to t) s cs ≡ max (greatest (λ c. session_eq c.begun.session s &&
     (session_eq c.begun.session t.session && nat_lt c.begun.tid.seq t.tid.seq)) cs) (greatest (is_shown_of s t.snapshot) cs)
 direct-or s t cs others =
     direct-is s t cs
-    ∙ greatest-or (λ c. session_eq c.begun.session s && leads_to t c)
+    ∙ greatest-or (λ c. session_eq c.begun.session s && steps_to t c)
     (λ c. session_eq c.begun.session s && (session_eq c.begun.session t.session && nat_lt c.begun.tid.seq t.tid.seq)) (is_shown_of s t.snapshot)
     cs
-    (λ c i. ap (λ b. session_eq c.begun.session s && b) (leads-either cs t others c i) ∙ on (session_eq c.begun.session s)
+    (λ c i. ap (λ b. session_eq c.begun.session s && b) (is_step-either cs t others c i) ∙ on (session_eq c.begun.session s)
     (session_eq c.begun.session t.session && nat_lt c.begun.tid.seq t.tid.seq) (has_own_vector c) (at_most c.vector t.snapshot))
   where
     on : (a e u m : Bool) → (a && (e || (u && m))) ≡ ((a && e) || ((a && u) && m))
@@ -328,7 +328,7 @@ direct-or s t cs others =
 
 -- of the transaction's own session
 pub direct_own : (s : SessionName) (t : Begun) (cs : List Committed) (a b : ℕ) → IsNotInItsOwn cs t → session_eq s t.session ≡ true
-    → a ≡ greatest (is_earlier_of s t.tid.seq) cs → b ≡ greatest (is_shown_of s t.snapshot) cs → max a b ≡ count_of (leads_to t) s cs
+    → a ≡ greatest (is_earlier_of s t.tid.seq) cs → b ≡ greatest (is_shown_of s t.snapshot) cs → max a b ≡ count_of (steps_to t) s cs
 direct_own s t cs a b others same ea eb =
     (λ i. max (ea i) (eb i)) ∙ ap (λ n. max n (greatest (is_shown_of s t.snapshot) cs)) (greatest-same cs) ∙ sym (direct-or s t cs others)
   where
@@ -351,7 +351,7 @@ direct_own s t cs a b others same ea eb =
 
 -- of another session
 pub direct_other : (s : SessionName) (t : Begun) (cs : List Committed) (b : ℕ) → IsNotInItsOwn cs t → session_eq s t.session ≡ false
-    → b ≡ greatest (is_shown_of s t.snapshot) cs → b ≡ count_of (leads_to t) s cs
+    → b ≡ greatest (is_shown_of s t.snapshot) cs → b ≡ count_of (steps_to t) s cs
 direct_other s t cs b others apart eb =
     eb
     ∙ more (greatest (is_shown_of s t.snapshot) cs)

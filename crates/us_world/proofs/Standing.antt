@@ -18,13 +18,13 @@ use Rattle.us_model.specs.declared.event.Outputs.{Outputs}
 use Rattle.us_site.specs.Served.{Served}
 use Rattle.us_model.specs.State.{Site}
 use Rattle.us_model.specs.Sites.{Stepped, site_step}
-use Rattle.us_model.specs.Worlds.{World, Comes, nth, stepped, at_one, at_site, delivered, comes, happens, is_delivered}
+use Rattle.us_model.specs.Worlds.{World, DeliverPacket, nth, stepped, at_one, at_site, delivered, deliver_packet, world_step, is_delivered}
 use Rattle.us_history.specs.Histories.{History, no_history}
 use Rattle.us_model.specs.Executions.{noted, noted_all}
 use Rattle.us_world.specs.declared.world.Sent.{Sent}
 use Rattle.us_world.specs.Limits.{is_opening, is_beginning, how_many, opened_in, begun_in}
-use Rattle.us_world.specs.Kept.{Kept, StandsFor, site_of, HasStepped, packet_of, fresh, unmarked, is_marked_at, after_step, after_nothing, after_one}
-use Rattle.us_world.specs.Kept.{after_at, marked, after_delivery, HasSkipped, IsDelivered, HasCome, LimitSays, passed_by}
+use Rattle.us_world.specs.WorldState.{WorldState, Represents, site_of, HasStepped, packet_of, fresh, unmarked, is_marked_at, after_step, after_nothing, after_one}
+use Rattle.us_world.specs.WorldState.{after_at, marked, after_delivery, HasSkipped, IsDelivered, HasCome, LimitSays, passed_by}
 
 -- PACKETS AND NOTES IN TURN
 -- one more is on its way
@@ -107,7 +107,7 @@ nth-outside xs (suc m) (inr l) =
     cond-true _ _ _ t ∙ ap (λ i. slice_get xs i) e ∙ slice-outside xs m (omega arith)
 
 -- the packet of the number is that of the place
-pub nth-place : (k : Kept) (w : World) (place number : ℕ) (s : Sent) → StandsFor k w → slice_get k.sent place ≡ Some s → number ≡ place + 1
+pub nth-place : (k : WorldState) (w : World) (place number : ℕ) (s : Sent) → Represents k w → slice_get k.sent place ≡ Some s → number ≡ place + 1
     → nth w.packets number ≡ Some s.packet
 nth-place k w place number s h at is =
     ap (λ ps. nth ps number) h.packets
@@ -121,7 +121,7 @@ packets-append [] [] = refl
 packets-append [] (p ∷ ps) = ap (λ qs. p ∷ qs) (packets-append [] ps)
 packets-append (s ∷ ss) ps = ap (λ qs. packet_of s ∷ qs) (packets-append ss ps)
 
-stands_step : (k : Kept) (w : World) (s : ℕ) (r : Stepped) → StandsFor k w → StandsFor (after_step s k r) (stepped w s r)
+stands_step : (k : WorldState) (w : World) (s : ℕ) (r : Stepped) → Represents k w → Represents (after_step s k r) (stepped w s r)
 stands_step k w s r h = record {
   sites = ap (λ sites. slice_set sites (s - 1) r.site) h.sites;
   packets = ap (λ ps. ps ++ r.out.packets) h.packets ∙ sym (packets-append k.sent r.out.packets);
@@ -133,7 +133,7 @@ stands_step k w s r h = record {
 }
 
 -- where no site is
-stands_nothing : (k : Kept) (w : World) → StandsFor k w → StandsFor (after_nothing k) w
+stands_nothing : (k : WorldState) (w : World) → Represents k w → Represents (after_nothing k) w
 stands_nothing k w h = record {
   sites = h.sites;
   packets = h.packets;
@@ -144,29 +144,29 @@ stands_nothing k w h = record {
   transactions = h.transactions;
 }
 
-stands_one : (k : Kept) (w : World) (s : ℕ) (e : Event) (o : Option Site) → StandsFor k w → StandsFor (after_one k s e o) (at_one w s e o)
+stands_one : (k : WorldState) (w : World) (s : ℕ) (e : Event) (o : Option Site) → Represents k w → Represents (after_one k s e o) (at_one w s e o)
 stands_one k w s e None h = stands_nothing k w h
 stands_one k w s e (Some site) h = stands_step k w s (site_step site e) h
 
-pub stands_at : (k : Kept) (w : World) (s : ℕ) (e : Event) → StandsFor k w → StandsFor (after_at k s e) (at_site w s e)
-stands_at k w s e h = subst (λ sites. StandsFor (after_at k s e) (at_one w s e (nth sites s))) (sym h.sites) (stands_one k w s e (nth k.sites s) h)
+pub stands_at : (k : WorldState) (w : World) (s : ℕ) (e : Event) → Represents k w → Represents (after_at k s e) (at_site w s e)
+stands_at k w s e h = subst (λ sites. Represents (after_at k s e) (at_one w s e (nth sites s))) (sym h.sites) (stands_one k w s e (nth k.sites s) h)
 
-events-one : (k : Kept) (s : ℕ) (e : Event) (o : Option Site) → (after_one k s e o).events ≡ k.events + 1
+events-one : (k : WorldState) (s : ℕ) (e : Event) (o : Option Site) → (after_one k s e o).events ≡ k.events + 1
 events-one k s e None = refl
 events-one k s e (Some site) = refl
 
-pub events-at : (k : Kept) (s : ℕ) (e : Event) → (after_at k s e).events ≡ k.events + 1
+pub events-at : (k : WorldState) (s : ℕ) (e : Event) → (after_at k s e).events ≡ k.events + 1
 events-at k s e = events-one k s e (nth k.sites s)
 
 -- the site of a number that there is, and where there is none
-pub after_stepped : (k : Kept) (s place : ℕ) (e : Event) (site : Site) → s ≡ place + 1 → slice_get k.sites place ≡ Some site
+pub after_stepped : (k : WorldState) (s place : ℕ) (e : Event) (site : Site) → s ≡ place + 1 → slice_get k.sites place ≡ Some site
     → after_at k s e ≡ after_step (place + 1) k (site_step site e)
 after_stepped k s place e site is at =
     ap (λ n. after_at k n e) is
     ∙ ap (after_one k (place + 1) e) (nth-get k.sites (place + 1) site (omega arith)
     (λ m f. let same : m ≡ place = omega arith in ap (λ i. slice_get k.sites i) same ∙ at))
 
-pub after_none : (k : Kept) (s : ℕ) (e : Event) → (s ≡ 0) ⊎ (length k.sites < s) → after_at k s e ≡ after_nothing k
+pub after_none : (k : WorldState) (s : ℕ) (e : Event) → (s ≡ 0) ⊎ (length k.sites < s) → after_at k s e ≡ after_nothing k
 after_none k s e out = ap (after_one k s e) (nth-outside k.sites s out)
 
 -- A PACKET IS DELIVERED
@@ -188,8 +188,8 @@ del-same del n m e =
     let t : (n == m) ≡ true = grind (arith, nat_tests) in
     list_any-append (λ j. j == m) del (n ∷ []) ∙ or-true (is_delivered del m) (n == m) t
 
-stands_marked : (k : Kept) (w : World) (place number : ℕ) (s : Sent) → StandsFor k w → slice_get k.sent place ≡ Some s → number ≡ place + 1
-    → StandsFor (marked place s k) (delivered w number)
+stands_marked : (k : WorldState) (w : World) (place number : ℕ) (s : Sent) → Represents k w → slice_get k.sent place ≡ Some s → number ≡ place + 1
+    → Represents (marked place s k) (delivered w number)
 stands_marked k w place number s h at is = record {
   sites = h.sites;
   packets = h.packets ∙ sym (packets-set k.sent place s (record s { delivered = true }) at refl);
@@ -223,18 +223,18 @@ stands_marked k w place number s h at is = record {
     keep i was true t = there i t
     keep i was false t = elsewhere i t ∙ was
 
-pub stands_delivery : (k : Kept) (w : World) (place number : ℕ) (s : Sent) → StandsFor k w → slice_get k.sent place ≡ Some s → number ≡ place + 1
-    → StandsFor (after_delivery place s k) (happens w (Comes number))
-unfolding happens
+pub stands_delivery : (k : WorldState) (w : World) (place number : ℕ) (s : Sent) → Represents k w → slice_get k.sent place ≡ Some s → number ≡ place + 1
+    → Represents (after_delivery place s k) (world_step w (DeliverPacket number))
+unfolding world_step
 stands_delivery k w place number s h at is =
     let sent : nth w.packets number ≡ Some s.packet = nth-place k w place number s h at is in
-    subst (λ o. StandsFor (after_delivery place s k) (comes w number o)) (sym sent)
+    subst (λ o. Represents (after_delivery place s k) (deliver_packet w number o)) (sym sent)
     (stands_at (marked place s k) (delivered w number) s.packet.to.site (event.Take s.packet) (stands_marked k w place number s h at is))
 
 -- THE CURSOR MOVES
-pub stands_skipped : (k next : Kept) (w : World) → StandsFor k w → HasSkipped k next → StandsFor next w
+pub stands_skipped : (k next : WorldState) (w : World) → Represents k w → HasSkipped k next → Represents next w
 stands_skipped k next w h skip =
-    subst (λ (m : Kept). StandsFor m w) (sym skip.same) (record {
+    subst (λ (m : WorldState). Represents m w) (sym skip.same) (record {
       sites = h.sites;
       packets = h.packets;
       marked = h.marked;
@@ -263,7 +263,7 @@ delivered_is old place r m packet within here there is =
     record { sent = m; at = second; is = is ∙ ap packet_of same; marked = refl }
 
 -- and then its packet comes
-pub come_of : {A : Type 0} (r : Result A WorldFault) (place : ℕ) (old new : Kept) (after : List Sent) (packet : Packet)
+pub come_of : {A : Type 0} (r : Result A WorldFault) (place : ℕ) (old new : WorldState) (after : List Sent) (packet : Packet)
     → IsDelivered place old.sent after packet
     → OnOk r (new ≡ after_at (record old { sent = after }) packet.to.site (event.Take packet))
     → LimitSays r (passed_by (after_at (record old { sent = after }) packet.to.site (event.Take packet)))
@@ -285,7 +285,7 @@ some-place (x ∷ xs) zero l = (x, refl)
 some-place (x ∷ xs) (suc i) l = some-place xs i (omega arith)
 
 -- or memory ran out
-pub come_not : {A : Type 0} (place : ℕ) (old new : Kept) → place < length old.sent → HasCome {A = A} (Err fault.Memory) place old new
+pub come_not : {A : Type 0} (place : ℕ) (old new : WorldState) → place < length old.sent → HasCome {A = A} (Err fault.Memory) place old new
 come_not place old new within =
     let there = some-place old.sent place within in
     record { sent = there.0; at = there.1; after = tt; limit = tt }
@@ -315,7 +315,7 @@ has_stepped (Ok out) sites place other new e within site gives = record {
 has_stepped (Err x) sites place other new e within site gives = tt
 
 -- and the world is as after it
-pub world_stepped : (k : Kept) (s place : ℕ) (e : Event) (sites new : List Served) (out : Outputs) → s ≡ place + 1 → k.sites ≡ map site_of sites
+pub world_stepped : (k : WorldState) (s place : ℕ) (e : Event) (sites new : List Served) (out : Outputs) → s ≡ place + 1 → k.sites ≡ map site_of sites
     → (h : HasStepped place e sites new out)
     → after_at k s e ≡ record {
       sites = map site_of new;

@@ -6,14 +6,14 @@ use Rattle.us_exec.specs.declared.Loose.{Loose}
 use Rattle.us_exec.specs.declared.Link.{Link}
 use Rattle.us_exec.specs.declared.Execution.{Execution}
 use Rattle.us_history.specs.Histories.{Begun, History}
-use Rattle.us_history.specs.Pasts.{leads, sessions_of, counts_of, direct_past}
+use Rattle.us_history.specs.Pasts.{is_step, sessions_of, counts_of, direct_past}
 use Rattle.us_history.specs.Arbitration.{arbitrated}
 use Rattle.us_history.specs.Executions.{entries_of, loose_of, execution_by}
-use Rattle.us_world.specs.Found.{unlinked_past}
+use Rattle.us_world.specs.PastSearch.{unlinked_past}
 
 -- pasts counted over these links
 abbrev past_over : History → List Link → Begun → List Count
-past_over h links t = counts_of (λ c. leads links c t) h.committed (sessions_of h.committed)
+past_over h links t = counts_of (λ c. is_step links c t) h.committed (sessions_of h.committed)
 
 abbrev over : History → List Link → Execution
 over h links = record { entries = entries_of (past_over h links) (arbitrated h.committed); loose = loose_of (past_over h links) h h.begun; links = links }

@@ -1,5 +1,5 @@
-pub mod ByHand
-pub mod Found
+pub mod AscendingCheck
+pub mod PastSearch
 pub mod Limits
-pub mod Kept
+pub mod WorldState
 pub mod Lines

@@ -4,7 +4,7 @@ use Rattle.us_schedule.specs.declared.line.Line.{Line}
 use Rattle.us_schedule.specs.declared.line.Line.TheVariants as line
 use Rattle.us_model.specs.declared.event.Note.{Note}
 use Rattle.us_model.specs.declared.event.Note.TheVariants as note
-use Rattle.us_model.specs.Worlds.{World, Happening, Opens, Sends, Closes, Comes, Flushes, nth, least_undelivered, happens, run, start}
+use Rattle.us_model.specs.Worlds.{World, WorldEvent, OpenSession, ClientBytes, CloseSession, DeliverPacket, Flushes, nth, least_undelivered, world_step, run, start}
 use Rattle.us_model.specs.declared.settings.Settings.{Settings}
 use Rattle.us_peer_wire.specs.declared.message.Packet.{Packet}
 use Rattle.us_world.specs.declared.fault.WorldFault.{WorldFault}
@@ -46,30 +46,30 @@ past_limits events sessions transactions =
 abbrev pub passed : ℕ → World → Option WorldFault
 passed events w = past_limits events (opened_in w.notes) (begun_in w.notes)
 
--- THE LIMIT OF HAPPENINGS from a world on, so many events having been before: the first count that passes its number
+-- THE LIMIT OF EVENTS from a world on, so many events having been before: the first count that passes its number
 abbrev pub or_else : Option WorldFault → Option WorldFault → Option WorldFault
 or_else None later = later
 or_else (Some which) later = Some which
 
-abbrev pub limit_of : ℕ → List Happening → World → Option WorldFault
+abbrev pub limit_of : ℕ → List WorldEvent → World → Option WorldFault
 limit_of events [] w = None
-limit_of events (h ∷ hs) w = or_else (passed (events + 1) (happens w h)) (limit_of (events + 1) hs (happens w h))
+limit_of events (h ∷ hs) w = or_else (passed (events + 1) (world_step w h)) (limit_of (events + 1) hs (world_step w h))
 
 -- ---- what a line stands for
 
 -- the packet of this number comes, where so many were sent
-abbrev pub delivery_of : ℕ → Option Packet → List Happening
+abbrev pub delivery_of : ℕ → Option Packet → List WorldEvent
 delivery_of number None = []
-delivery_of number (Some packet) = Comes number ∷ []
+delivery_of number (Some packet) = DeliverPacket number ∷ []
 
-abbrev pub delivery : ℕ → World → List Happening
+abbrev pub delivery : ℕ → World → List WorldEvent
 delivery number w = delivery_of number (nth w.packets number)
 
--- the happenings that a line stands for in a world: the lines that this stage builds
-abbrev pub Performs : Line → World → List Happening → Type 0
-Performs (line.Open site coord) w hs = hs ≡ Opens site coord ∷ []
-Performs (line.Bytes site coord session piece) w hs = hs ≡ Sends site coord session piece ∷ []
-Performs (line.Close site coord session) w hs = hs ≡ Closes site coord session ∷ []
+-- the events that a line stands for in a world: the lines that this stage builds
+abbrev pub Performs : Line → World → List WorldEvent → Type 0
+Performs (line.Open site coord) w hs = hs ≡ OpenSession site coord ∷ []
+Performs (line.Bytes site coord session piece) w hs = hs ≡ ClientBytes site coord session piece ∷ []
+Performs (line.Close site coord session) w hs = hs ≡ CloseSession site coord session ∷ []
 Performs (line.Deliver number) w hs = hs ≡ delivery number w
 Performs (line.Flush from to) w hs = Flushes from to w hs
 Performs (line.Tick site actor clock) w hs = ⊥
@@ -79,29 +79,29 @@ Performs (line.Crash site) w hs = ⊥
 Performs (line.Settle clock rounds) w hs = ⊥
 
 -- each time the least undelivered packet from one site to another comes
-abbrev pub Delivers : ℕ → ℕ → World → List Happening → Type 0
+abbrev pub Delivers : ℕ → ℕ → World → List WorldEvent → Type 0
 Delivers from to w [] = ⊤
-Delivers from to w (h ∷ hs) = ((k : ℕ) × (least_undelivered w from to ≡ Some k) × (h ≡ Comes k)) × Delivers from to (happens w h) hs
+Delivers from to w (h ∷ hs) = ((k : ℕ) × (least_undelivered w from to ≡ Some k) × (h ≡ DeliverPacket k)) × Delivers from to (world_step w h) hs
 
--- the first happenings of those that a line stands for: a flush may have more of them
-abbrev pub Begins : Line → World → List Happening → Type 0
+-- the first events of those that a line stands for: a flush may have more of them
+abbrev pub Begins : Line → World → List WorldEvent → Type 0
 Begins (line.Flush from to) w hs = Delivers from to w hs
 Begins l w hs = Performs l w hs
 
 -- ---- the events of lines
 
 -- of this line its own events in the world, and then others
-abbrev pub GoOn : Line → World → List Happening → (World → List Happening → Type 0) → Type 0
-GoOn l w es Others = (own : List Happening) × (others : List Happening) × Performs l w own × (es ≡ own ++ others) × Others (run own w) others
+abbrev pub GoOn : Line → World → List WorldEvent → (World → List WorldEvent → Type 0) → Type 0
+GoOn l w es Others = (own : List WorldEvent) × (others : List WorldEvent) × Performs l w own × (es ≡ own ++ others) × Others (run own w) others
 
 -- THE EVENTS OF LINES from a world on: of each line those that it stands for in the world that the earlier ones reach
-abbrev pub AreEventsOf : List Numbered → World → List Happening → Type 0
+abbrev pub AreEventsOf : List Numbered → World → List WorldEvent → Type 0
 AreEventsOf [] w es = es ≡ []
 AreEventsOf (l ∷ ls) w es = GoOn l.line w es (λ v others. AreEventsOf ls v others)
 
 -- THE WORLD OF LINES: the run over their events, none of which passes a limit
 pub record IsWorldOf (settings : Settings) (lines : List Numbered) (w : World) : Type 0 where
-  pub events : List Happening
+  pub events : List WorldEvent
   pub are : AreEventsOf lines (start settings) events
   pub within : limit_of 0 events (start settings) ≡ None
   pub run : w ≡ run events (start settings)
@@ -113,10 +113,10 @@ pub record IsPassedAt (settings : Settings) (lines : List Numbered) (number : �
   pub after : List Numbered
   pub split : lines ≡ before ++ line ∷ after
   pub at : line.number ≡ number
-  pub events : List Happening
+  pub events : List WorldEvent
   pub are : AreEventsOf before (start settings) events
   pub within : limit_of 0 events (start settings) ≡ None
-  pub own : List Happening
+  pub own : List WorldEvent
   pub first : Begins line.line (run events (start settings)) own
   pub passes : limit_of (length events) own (run events (start settings)) ≡ Some which
 

@@ -4,11 +4,11 @@ use Rattle.us_schedule.specs.declared.line.Line.{Line}
 use Rattle.us_schedule.specs.declared.line.Line.TheVariants as line
 use Rattle.us_report.specs.declared.report.Report.{Report}
 use Rattle.us_model.specs.declared.settings.Settings.{Settings}
-use Rattle.us_model.specs.Worlds.{World, Happening, waits_of, run}
+use Rattle.us_model.specs.Worlds.{World, WorldEvent, waits_of, run}
 use Rattle.us_model.specs.Executions.{execution_of, refusals_of}
 use Rattle.us_history.specs.Pasts.{direct_past}
 use Rattle.us_history.specs.Executions.{execution_by}
-use Rattle.us_world.specs.Kept.{Kept, StandsFor}
+use Rattle.us_world.specs.WorldState.{WorldState, Represents}
 use Rattle.us_world.specs.Limits.{Performs, Begins, delivery, limit_of, IsWorldOf, IsPassedAt}
 use Rattle.us_world.specs.declared.fault.WorldFault.{WorldFault}
 use Rattle.us_world.specs.declared.fault.WorldFault.TheVariants as fault
@@ -33,31 +33,31 @@ abbrev pub AllBuilt : List Numbered → Type 0
 AllBuilt [] = ⊤
 AllBuilt (l ∷ ls) = IsBuilt l.line × AllBuilt ls
 
--- what is kept goes from one to the other by happenings that are such for the world, within the limits
-abbrev pub GoesBy : (World → List Happening → Type 0) → Kept → Kept → Type 0
-GoesBy Are old new =
-    (w : World) → StandsFor old w
-    → (hs : List Happening) × Are w hs × (limit_of old.events hs w ≡ None) × StandsFor new (run hs w) × (new.events ≡ old.events + length hs)
+-- what is kept goes from one to the other by events that are such for the world, within the limits
+abbrev pub AdvancesBy : (World → List WorldEvent → Type 0) → WorldState → WorldState → Type 0
+AdvancesBy Are old new =
+    (w : World) → Represents old w
+    → (hs : List WorldEvent) × Are w hs × (limit_of old.events hs w ≡ None) × Represents new (run hs w) × (new.events ≡ old.events + length hs)
 
--- such happenings pass a limit
-abbrev pub PassesBy : (World → List Happening → Type 0) → Kept → WorldFault → Type 0
-PassesBy Are old which = (w : World) → StandsFor old w → (hs : List Happening) × Are w hs × (limit_of old.events hs w ≡ Some which)
+-- such events pass a limit
+abbrev pub ExceedsBy : (World → List WorldEvent → Type 0) → WorldState → WorldFault → Type 0
+ExceedsBy Are old which = (w : World) → Represents old w → (hs : List WorldEvent) × Are w hs × (limit_of old.events hs w ≡ Some which)
 
--- a fault is a limit that such happenings pass, unless memory ran out
-abbrev pub StoppedBy : (World → List Happening → Type 0) → Kept → WorldFault → Type 0
+-- a fault is a limit that such events pass, unless memory ran out
+abbrev pub StoppedBy : (World → List WorldEvent → Type 0) → WorldState → WorldFault → Type 0
 StoppedBy Are old fault.Memory = ⊤
-StoppedBy Are old which = PassesBy Are old which
+StoppedBy Are old which = ExceedsBy Are old which
 
 -- what is kept goes from one to the other by what the line stands for
-abbrev pub IsPerformed : Line → Kept → Kept → Type 0
-IsPerformed l old new = GoesBy (Performs l) old new
+abbrev pub IsPerformed : Line → WorldState → WorldState → Type 0
+IsPerformed l old new = AdvancesBy (Performs l) old new
 
--- the first happenings of the line pass that limit, unless memory ran out
-abbrev pub IsStopped : Line → Kept → WorldFault → Type 0
+-- the first events of the line pass that limit, unless memory ran out
+abbrev pub IsStopped : Line → WorldState → WorldFault → Type 0
 IsStopped l old which = StoppedBy (Begins l) old which
 
--- the happenings are the coming of the packet of this number, where so many were sent
-abbrev pub IsDelivery : ℕ → World → List Happening → Type 0
+-- the events are the coming of the packet of this number, where so many were sent
+abbrev pub IsDelivery : ℕ → World → List WorldEvent → Type 0
 IsDelivery number w hs = hs ≡ delivery number w
 
 -- THE REPORT OF A WORLD
@@ -65,13 +65,13 @@ abbrev pub report_of : World → Report
 report_of w = record { execution = execution_of w.notes; refused = refusals_of w.notes; waiting = waits_of w.sites }
 
 -- as it is of what is kept
-abbrev pub report_of_kept : Kept → Report
+abbrev pub report_of_kept : WorldState → Report
 report_of_kept k = record { execution = execution_by direct_past k.history; refused = k.history.refused; waiting = waits_of k.sites }
 
 -- what is kept stands for the world of the lines
-pub record HasReached (settings : Settings) (lines : List Numbered) (k : Kept) : Type 0 where
+pub record HasReached (settings : Settings) (lines : List Numbered) (k : WorldState) : Type 0 where
   pub world : World
-  pub stands : StandsFor k world
+  pub stands : Represents k world
   pub is : IsWorldOf settings lines world
 
 -- the lines have a world

@@ -3,7 +3,7 @@ ghost use Rattle.std.specs.Prelude.{◌≡◌, true};
 ghost use Rattle.std.specs.List.{list_all};
 ghost use Rattle.us_history.specs.Histories.{Committed};
 ghost use Rattle.us_snapshots.specs.Ascending.{Ascends};
-ghost use Rattle.us_world.specs.ByHand.{all_stay_out, ascend_by_number, ascends, sessions_ascend, stays_out};
+ghost use Rattle.us_world.specs.AscendingCheck.{all_stay_out, ascend_by_number, ascends, sessions_ascend, stays_out};
 
 use crate::beginnings::Beginning;
 use crate::commits::Commit;

@@ -3,11 +3,11 @@ ghost use Rattle.std.specs.Prelude.{◌≡◌, ◌+◌, ◌++◌, ◌∷◌, [],
 ghost use Rattle.us_history.specs.Histories.{committed_in};
 ghost use Rattle.us_snapshots.specs.Ascending.{SessionsAscend};
 ghost use Rattle.us_history.specs.Pasts.{count_of};
-ghost use Rattle.us_world.specs.Found.{leads_to};
-ghost use Rattle.us_world.specs.Found.{group_of, is_in_group, greatest, greatest_found, found_at, passes, number_of, is_earlier, is_earlier_of, is_shown, is_shown_of, IsSearchable, PassFirst};
+ghost use Rattle.us_world.specs.PastSearch.{steps_to};
+ghost use Rattle.us_world.specs.PastSearch.{group_of, is_in_group, greatest, greatest_found, found_at, passes, number_of, is_earlier, is_earlier_of, is_shown, is_shown_of, IsSearchable, PassFirst};
 
 use crate::beginnings::Beginning;
-use crate::numbers::plus;
+use crate::numbers::checked_sum;
 use crate::past::{has_own_vector, same_session};
 use std::alloc::Global;
 use std::marker::Model;
@@ -51,7 +51,7 @@ pub struct Commits {
 impl Model for Commits {
     ghost use Rattle.std.specs.Prelude.{List};
     ghost use Rattle.us_history.specs.Histories.{Committed};
-    ghost use Rattle.us_world.specs.Found.{IsIndexed};
+    ghost use Rattle.us_world.specs.PastSearch.{IsIndexed};
 
     ghost Value = { List Committed };
 
@@ -82,14 +82,14 @@ impl Commits {
     {
         let updating = self.places(session, true).len() as u64;
         let reading = self.places(session, false).len() as u64;
-        plus(plus(updating, reading)?, 1)
+        checked_sum(checked_sum(updating, reading)?, 1)
     }
 
-    /// The greatest number of a transaction of the session that leads to this one. It is searched for by halves: of a
+    /// The greatest number of a transaction of the session that leads to this one. It is found by binary search: of a
     /// session's transactions that update those in a snapshot come first, and of this one's session those begun earlier.
     pub fn count_before(&self, session: &SessionName, transaction: &Beginning) -> u64
         requires { IsSearchable self.now transaction.now }
-        ensures { result ≡ count_of (leads_to transaction.now) session.now self.now }
+        ensures { result ≡ count_of (steps_to transaction.now) session.now self.now }
     {
         let shown = self.last_shown(session, &transaction.snapshot);
         if same_session(session, &transaction.session) {

@@ -2,12 +2,12 @@
 ghost use Rattle.std.specs.Prelude.{◌≡◌, IfOk, map};
 ghost use Rattle.us_history.specs.Histories.{Committed, is_committed};
 ghost use Rattle.us_history.specs.Pasts.{sessions_of};
-ghost use Rattle.us_kind.specs.Words.{In};
+ghost use Rattle.us_kind.specs.Comparison.{In};
 ghost use Rattle.us_snapshots.specs.Ascending.{Ascends};
 ghost use Rattle.us_history.specs.Executions.{entry_of, entries_of, loose_of, loose_one, execution_by};
-ghost use Rattle.us_world.specs.Found.{unlinked_past};
+ghost use Rattle.us_world.specs.PastSearch.{unlinked_past};
 ghost use Rattle.us_history.specs.Pasts.{direct_past};
-ghost use Rattle.us_world.specs.Found.{IsSearchable};
+ghost use Rattle.us_world.specs.PastSearch.{IsSearchable};
 
 use crate::beginnings::Beginning;
 use crate::commits::{Commit, Commits};

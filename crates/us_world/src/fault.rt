@@ -3,7 +3,7 @@ ghost use Rattle.std.specs.Prelude.{◌≡◌};
 use us_kind::Memory;
 use us_schedule::Line;
 
-/// Why a line isn't performed: the count that an event took past its number, or want of memory.
+/// Why a line isn't performed: the count that an event took past its number, or out of memory.
 #[derive(Clone, Copy, Debug, PartialEq, Eq, Hash)]
 pub enum WorldFault {
     /// More than 1,000,000 events.

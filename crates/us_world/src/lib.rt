@@ -7,16 +7,16 @@ mod commits;
 mod execution;
 mod fault;
 mod history;
-mod leading;
 mod numbers;
 mod order;
 mod past;
 mod performances;
+mod performing;
 mod world;
 
 pub use fault::{LinesFault, Numbered, WorldFault};
 pub use history::History;
-pub use leading::{outcomes_are_one, perform_lines, report_of_lines};
+pub use performing::{outcomes_are_one, perform_lines, report_of_lines};
 pub use world::{Sent, World};
 
 #[cfg(test)]

@@ -3,8 +3,8 @@ ghost use Rattle.std.specs.Prelude.{◌≡◌, ◌+◌, IfOk};
 
 use us_kind::Memory;
 
-/// The sum. One that doesn't fit its type counts as want of memory.
-pub fn plus(count: u64, more: u64) -> Result<u64, Memory>
+/// The sum. One that doesn't fit its type counts as out of memory.
+pub fn checked_sum(count: u64, more: u64) -> Result<u64, Memory>
     ensures { IfOk result (λ sum. sum ≡ count + more) }
 {
     match count.checked_add(more) {

@@ -4,8 +4,8 @@ ghost use Rattle.us_exec.specs.Past.{session_eq};
 ghost use Rattle.us_history.specs.Histories.{has_own_vector, some_update};
 ghost use Rattle.us_value.specs.Values.{is_update};
 ghost use Rattle.us_history.specs.Pasts.{counts_of};
-ghost use Rattle.us_world.specs.Found.{leads_to};
-ghost use Rattle.us_world.specs.Found.{IsSearchable};
+ghost use Rattle.us_world.specs.PastSearch.{steps_to};
+ghost use Rattle.us_world.specs.PastSearch.{IsSearchable};
 
 use crate::beginnings::Beginning;
 use crate::commits::{Commit, Commits};
@@ -21,7 +21,7 @@ pub fn past_of(
     transaction: &Beginning,
 ) -> Result<Items<Count>, Memory>
     requires { IsSearchable committed.now transaction.now }
-    ensures { IfOk result (λ past. past ≡ counts_of (leads_to transaction.now) committed.now sessions.now) }
+    ensures { IfOk result (λ past. past ≡ counts_of (steps_to transaction.now) committed.now sessions.now) }
 {
     let mut past = Items::new(alloc);
     for session in sessions {

@@ -1,7 +1,7 @@
 //! The operations that were performed.
 ghost use Rattle.std.specs.Prelude.{◌≡◌, ◌++◌, ◌∷◌, [], IfOk, OnOk, slice_get};
 ghost use Rattle.us_history.specs.Histories.{ops_of};
-ghost use Rattle.us_world.specs.Found.{done_at, done_before};
+ghost use Rattle.us_world.specs.PastSearch.{done_at, done_before};
 
 use std::alloc::Global;
 use std::marker::Model;

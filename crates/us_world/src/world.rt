@@ -4,11 +4,11 @@ ghost use Rattle.us_base.specs.Shape.{IsShape};
 ghost use Rattle.us_model.specs.Worlds.{new_sites, start, waits_of, Flushes};
 ghost use Rattle.us_model.specs.Executions.{noted_all};
 ghost use Rattle.us_snapshots.specs.Ascending.{Ascends};
-ghost use Rattle.us_world.specs.Kept.{AllMarked, StandsFor, unmarked, site_of, HasStepped, after_at, passed_by, is_due, is_due_at, NoneDue, HasSkipped, HasCome, IsDelivered, LimitSays};
+ghost use Rattle.us_world.specs.WorldState.{AllMarked, Represents, unmarked, site_of, HasStepped, after_at, passed_by, is_due, is_due_at, NoneDue, HasSkipped, HasCome, IsDelivered, LimitSays};
 ghost use Rattle.us_world.specs.Limits.{Delivers, is_opening, is_beginning, opened_in, begun_in};
-ghost use Rattle.us_world.specs.Lines.{IsBuilt, GoesBy, StoppedBy, IsDelivery, IsPerformed, IsStopped, report_of_kept};
+ghost use Rattle.us_world.specs.Lines.{IsBuilt, AdvancesBy, StoppedBy, IsDelivery, IsPerformed, IsStopped, report_of_kept};
 
-use crate::numbers::plus;
+use crate::numbers::checked_sum;
 use crate::{History, WorldFault};
 use std::alloc::Global;
 use std::marker::Model;
@@ -52,9 +52,9 @@ pub struct World {
 
 impl Model for World {
     ghost use Rattle.std.specs.Prelude.{map};
-    ghost use Rattle.us_world.specs.Kept.{Kept, site_of};
+    ghost use Rattle.us_world.specs.WorldState.{WorldState, site_of};
 
-    ghost Value = { Kept };
+    ghost Value = { WorldState };
 
     ghost view = { λ a. record { sites = map site_of a.sites.items; sent = a.sent.items; cursor = a.cursor; history = a.history; events = a.events; sessions = a.sessions; transactions = a.transactions } };
 }
@@ -139,11 +139,11 @@ fn first_undelivered(sent: &[Sent], cursor: usize) -> usize
 }
 
 /// A copy of the packet at this place, which is delivered from now on.
-fn delivered_copy(alloc: Global, sent: &mut Vec<Sent>, place: usize) -> Result<Packet, Memory>
+fn delivered_copy(sent: &mut Vec<Sent>, place: usize) -> Result<Packet, Memory>
     requires { place < length sent.old.items }
     ensures { IfOk result (λ packet. IsDelivered place sent.old.items sent.new.items packet) }
 {
-    let packet = sent[place].packet.copy(alloc)?;
+    let packet = sent[place].packet.copy()?;
     sent[place].delivered = true;
     Ok(packet)
 }
@@ -214,7 +214,7 @@ impl World {
     /// The opening world of a store with these settings, in which nothing has happened.
     pub fn new(alloc: Global, settings: &Settings) -> Result<World, Memory>
         requires { IsShape settings.now.shape }
-        ensures start { IfOk result (λ world. StandsFor world (start settings.now)) }
+        ensures start { IfOk result (λ world. Represents world (start settings.now)) }
         ensures events { IfOk result (λ world. world.events ≡ 0) }
     {
         Ok(World {
@@ -228,7 +228,7 @@ impl World {
         })
     }
 
-    /// An event at the site of this number, with its outputs. After want of memory the world is only dropped.
+    /// An event at the site of this number, with its outputs. After a failed allocation the world is only dropped.
     fn step(&mut self, alloc: Global, site: u8, event: Event) -> Result<(), Memory>
         requires first { 1 ≤ site }
         requires last { site ≤ length self.old.sites }
@@ -238,8 +238,8 @@ impl World {
         let place = usize::from(site) - 1;
         let out = step_site(alloc, self.sites.as_mut_slice(), place, event)?;
         self.events += 1;
-        self.sessions = plus(self.sessions, opened_in(out.notes.as_slice()))?;
-        self.transactions = plus(self.transactions, begun_in(out.notes.as_slice()))?;
+        self.sessions = checked_sum(self.sessions, opened_in(out.notes.as_slice()))?;
+        self.transactions = checked_sum(self.transactions, begun_in(out.notes.as_slice()))?;
         send_all(&mut self.sent, out.packets)?;
         tell_all(&mut self.history, out.notes)
     }
@@ -289,16 +289,16 @@ impl World {
     /// The packet at this place comes, also one that came before.
     fn deliver_at(&mut self, alloc: Global, place: usize) -> Result<(), WorldFault>
         requires { place < length self.old.sent }
-        ensures comes { HasCome result place self.old self.new }
+        ensures deliver_packet { HasCome result place self.old self.new }
         ensures cursor { OnOk result (self.new.cursor ≡ self.old.cursor) }
     {
-        let packet = delivered_copy(alloc, &mut self.sent, place)?;
+        let packet = delivered_copy(&mut self.sent, place)?;
         self.happen(alloc, packet.to.site, Event::Take { packet })
     }
 
     /// The packet of this number, from 1, comes, where so many were sent.
     fn deliver(&mut self, alloc: Global, number: u64) -> Result<(), WorldFault>
-        ensures delivered { OnOk result (GoesBy (IsDelivery number) self.old self.new) }
+        ensures delivered { OnOk result (AdvancesBy (IsDelivery number) self.old self.new) }
         ensures forward { OnOk result (self.old.cursor ≤ self.new.cursor) }
         ensures stopped { IfErr result (λ fault. StoppedBy (IsDelivery number) self.old fault) }
     {
@@ -321,7 +321,7 @@ impl World {
 
     /// The packets from one site to another come, in order, and those that are sent meanwhile.
     fn flush(&mut self, alloc: Global, from: u8, to: u8) -> Result<(), WorldFault>
-        ensures flushed { OnOk result (GoesBy (Flushes from to) self.old self.new) }
+        ensures flushed { OnOk result (AdvancesBy (Flushes from to) self.old self.new) }
         ensures forward { OnOk result (self.old.cursor ≤ self.new.cursor) }
         ensures stopped { IfErr result (λ fault. StoppedBy (Delivers from to) self.old fault) }
     {

@@ -1,5 +1,6 @@
 use super::*;
 use std::alloc::Global;
+use std::process::Abort;
 use std::test::Fail;
 use us_kind::{Bytes, Memory};
 
@@ -135,6 +136,28 @@ fn copies(rt: HostRuntime) -> Result<(), Fail> {
         }
         assert_eq!(rt; State::initial(alloc, kind)?.kind(), kind);
     }
+    Ok(())
+}
+
+/// What a set answers of `x` at the state, and at a copy of it.
+fn answers_alike(rt: &impl Abort, alloc: Global, state: &State) -> Result<(), ValueFault> {
+    let copy = state.copy()?;
+    let asked = Op::SetMembers;
+    assert_eq!(rt;
+        answer(alloc, &copy, &asked)?,
+        answer(alloc, state, &asked)?
+    );
+    Ok(())
+}
+
+#[test]
+fn a_copy_of_a_state_answers_alike(rt: HostRuntime) -> Result<(), Fail> {
+    let alloc = rt.alloc();
+    let mut state = initial(alloc, Kind::Set)?;
+    let value = Bytes::from_slice(alloc, b"x")?;
+    let effect = Effect::SetAdd { value };
+    apply(alloc, &mut state, &effect, stamp(1, 1))?;
+    answers_alike(&rt, alloc, &state)?;
     Ok(())
 }
 

@@ -31,7 +31,7 @@ const ORDERS: [[usize; 4]; 24] = [
 ];
 
 // The state after effects that are applied in the order. The k-th effect has the k-th sum and the number k, from 0.
-#[tactic(auto, using(crate::proofs::Counted::one_more))]
+#[tactic(auto, using(crate::proofs::UpdateCount::one_more))]
 fn state_after(
     alloc: Global,
     kind: Kind,

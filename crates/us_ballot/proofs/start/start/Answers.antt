@@ -1,5 +1,5 @@
 use Rattle.std.proofs.Common.{sym, ◌∙◌, subst}
-use Rattle.us_ballot.proofs.Vows.{Fits, due_fits}
+use Rattle.us_ballot.proofs.Promises.{Fits, due_fits}
 use Rattle.us_ballot.proofs.start.start.Goals as goal
 
 pub start_by-requires-clause-window : goal.start_by-requires-clause-window

@@ -1,5 +1,5 @@
-use Rattle.us_client_wire.specs.Replies.{reply_of, reply_spelling, ReplyFits}
-use Rattle.us_fields.proofs.Decoded.{decoded, malformed, refused, is_spelling, no_spelling, spelling_is_read}
+use Rattle.us_client_wire.specs.Replies.{reply_of, reply_encoding, ReplyFits}
+use Rattle.us_fields.proofs.Decoded.{decoded, malformed, refused, is_encoding, no_encoding, encoding_is_read}
 use Rattle.us_client_wire.proofs.ReplyLaws.{reads_replies}
 use Rattle.us_client_wire.proofs.decode.decode_reply.Goals as goal
 
@@ -13,7 +13,7 @@ returns c =
       decoded = decoded (reply_of shape frame) c.reply_in.result told;
       malformed = malformed (reply_of shape frame) c.reply_in.result told;
       refused = refused (reply_of shape frame) c.reply_in.result told;
-      is_spelling = is_spelling (ReplyFits shape) (reply_spelling shape) (reply_of shape) frame law (λ i. (c.type_inv.frame i).fits) c.reply_in.result told;
-      no_spelling = no_spelling (ReplyFits shape) (reply_spelling shape) (reply_of shape) frame law c.reply_in.result told;
-      spelling_is_read = spelling_is_read (ReplyFits shape) (reply_spelling shape) (reply_of shape) frame law c.reply_in.result told;
+      is_encoding = is_encoding (ReplyFits shape) (reply_encoding shape) (reply_of shape) frame law (λ i. (c.type_inv.frame i).fits) c.reply_in.result told;
+      no_encoding = no_encoding (ReplyFits shape) (reply_encoding shape) (reply_of shape) frame law c.reply_in.result told;
+      encoding_is_read = encoding_is_read (ReplyFits shape) (reply_encoding shape) (reply_of shape) frame law c.reply_in.result told;
     }

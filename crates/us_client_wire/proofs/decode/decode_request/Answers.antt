@@ -1,5 +1,5 @@
-use Rattle.us_client_wire.specs.Requests.{request_of, request_spelling, RequestFits}
-use Rattle.us_fields.proofs.Decoded.{decoded, malformed, refused, is_spelling, no_spelling, spelling_is_read}
+use Rattle.us_client_wire.specs.Requests.{request_of, request_encoding, RequestFits}
+use Rattle.us_fields.proofs.Decoded.{decoded, malformed, refused, is_encoding, no_encoding, encoding_is_read}
 use Rattle.us_client_wire.proofs.RequestLaws.{reads_requests}
 use Rattle.us_client_wire.proofs.decode.decode_request.Goals as goal
 
@@ -13,7 +13,7 @@ returns c =
       decoded = decoded (request_of shape frame) c.request_in.result told;
       malformed = malformed (request_of shape frame) c.request_in.result told;
       refused = refused (request_of shape frame) c.request_in.result told;
-      is_spelling = is_spelling (RequestFits shape) (request_spelling shape) (request_of shape) frame law (λ i. (c.type_inv.frame i).fits) c.request_in.result told;
-      no_spelling = no_spelling (RequestFits shape) (request_spelling shape) (request_of shape) frame law c.request_in.result told;
-      spelling_is_read = spelling_is_read (RequestFits shape) (request_spelling shape) (request_of shape) frame law c.request_in.result told;
+      is_encoding = is_encoding (RequestFits shape) (request_encoding shape) (request_of shape) frame law (λ i. (c.type_inv.frame i).fits) c.request_in.result told;
+      no_encoding = no_encoding (RequestFits shape) (request_encoding shape) (request_of shape) frame law c.request_in.result told;
+      encoding_is_read = encoding_is_read (RequestFits shape) (request_encoding shape) (request_of shape) frame law c.request_in.result told;
     }

@@ -1,7 +1,7 @@
 use Rattle.std.proofs.Common.{◌≡◌, []}
 use Rattle.toml.specs.View.{array_view}
 use Rattle.us_config.specs.Values.{gathered, each_by}
-use Rattle.us_config.specs.Words.{pair_for}
+use Rattle.us_config.specs.Keywords.{pair_for}
 use Rattle.us_config.specs.declared.fault.Key.TheVariants.{SpaceConflicts}
 use Rattle.us_config.proofs.Lists.{left}
 use Rattle.us_config.proofs.space.listed_pairs.Given as goal

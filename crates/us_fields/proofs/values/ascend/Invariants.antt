@@ -1,5 +1,5 @@
 use Rattle.std.proofs.Common.{◌≡◌, ◌-◌, drop}
-use Rattle.us_fields.specs.FieldReadings.{is_ascending}
+use Rattle.us_fields.specs.FieldDecoders.{is_ascending}
 use Rattle.us_fields.proofs.values.ascend.Given as goal
 
 abbrev pub invariant-loop-i : goal.invariant-loop-i

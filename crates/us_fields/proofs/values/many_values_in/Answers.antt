@@ -1,6 +1,6 @@
 use Rattle.std.proofs.Common.{◌-◌, ◌+◌, ℕ, List, sym, ap, ◌∙◌}
 use Rattle.us_wire.specs.Fields.{value_at}
-use Rattle.us_wire.specs.Readings.{many_at}
+use Rattle.us_wire.specs.Decoders.{many_at}
 use Rattle.us_wire.proofs.Combined.{in_front, many_at-turn, many_at-end}
 use Rattle.us_fields.proofs.Loops.{no_value_read, many_stop}
 use Rattle.us_fields.proofs.values.many_values_in.Goals as goal

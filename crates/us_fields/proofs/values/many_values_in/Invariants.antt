@@ -1,6 +1,6 @@
 use Rattle.std.proofs.Common.{◌≡◌, ◌-◌}
 use Rattle.us_wire.specs.Fields.{value_at}
-use Rattle.us_wire.specs.Readings.{many_at}
+use Rattle.us_wire.specs.Decoders.{many_at}
 use Rattle.us_wire.proofs.Combined.{in_front}
 use Rattle.us_fields.proofs.values.many_values_in.Given as goal
 

@@ -1,5 +1,5 @@
 use Rattle.std.proofs.Common.{◌≡◌, ◌∙◌, sym}
-use Rattle.us_migrate.proofs.Spelled.{reads_tokens, token_found}
+use Rattle.us_migrate.proofs.Encoded.{reads_tokens, token_found}
 use Rattle.us_migrate.proofs.read.read_token.Goals as goal
 
 pub returns-clause-found : goal.returns-clause-found

@@ -2,7 +2,7 @@ use Rattle.std.proofs.Common.{◌≡◌, ◌+◌, ◌++◌, suc, take, length, L
 use Rattle.std.specs.Int.{w64, to_be_bytes}
 use Rattle.std.proofs.lemmas.List.{take_at}
 use Rattle.us_base.specs.Shape.{sites_of}
-use Rattle.us_wire.specs.Readings.{many_spelling}
+use Rattle.us_wire.specs.Decoders.{many_encoding}
 use Rattle.us_migrate.proofs.Writing.{none_written, one_more_written, holds_on_err}
 use Rattle.us_migrate.proofs.write.put_entries.Goals as goal
 
@@ -20,13 +20,13 @@ pub returns-in_err-put_u64-clause-err : goal.returns-in_err-put_u64-clause-err
 returns-in_err-put_u64-clause-err c =
     holds_on_err c.from_residual.result _
     (ap (λ (xs : List ℕ). take (length c.args.out.now.items) xs) ((c.in_err-put_u64.ensures {u = tt}).err ∙ c.loop-i.invariant)
-    ∙ take_at c.args.out.now.items (many_spelling (to_be_bytes w64) (take c.loop-i.i c.args.vector.now)) (length c.args.out.now.items) (λ i. length c.args.out.now.items))
+    ∙ take_at c.args.out.now.items (many_encoding (to_be_bytes w64) (take c.loop-i.i c.args.vector.now)) (length c.args.out.now.items) (λ i. length c.args.out.now.items))
 
 pub returns : goal.returns
 returns c =
     let e = c.sites-i-end.ensures in
     let end : c.loop-i.i ≡ suc (sites_of c.args.shape) = omega (arith, c.loop-i-test.false, c.loop-i.auto.i-end) in
     record {
-      ok = c.loop-i.invariant ∙ ap (λ (k : ℕ). c.args.out.now.items ++ many_spelling (to_be_bytes w64) (take k c.args.vector.now)) end;
+      ok = c.loop-i.invariant ∙ ap (λ (k : ℕ). c.args.out.now.items ++ many_encoding (to_be_bytes w64) (take k c.args.vector.now)) end;
       err = tt;
     }

@@ -1,6 +1,6 @@
 use Rattle.std.proofs.Common.{ℕ, ap, ◌∙◌}
 use Rattle.std.specs.Int.{w8}
-use Rattle.us_wire.specs.Readings.{number_between_at}
+use Rattle.us_wire.specs.Decoders.{number_between_at}
 use Rattle.us_peer_wire.proofs.ReadLemmas.{site_is_entry}
 use Rattle.us_peer_wire.proofs.read.origin_in.Goals as goal
 

@@ -1,5 +1,5 @@
 use Rattle.std.specs.Int.{w128}
-use Rattle.us_wire.proofs.Spelled.{integer_taken}
+use Rattle.us_wire.proofs.Encoded.{integer_taken}
 use Rattle.us_wire.proofs.read_fields.take_i128.Goals as goal
 
 pub returns : goal.returns

@@ -1,7 +1,7 @@
 use Rattle.std.proofs.Common.{◌∙◌, rules}
 use Rattle.std.specs.Prelude.{slice_get}
 use Rattle.std.proofs.lemmas.List.Sorted.{IsPartitionPoint-from_clause}
-use Rattle.us_world.specs.Found.{is_earlier, passes}
+use Rattle.us_world.specs.PastSearch.{is_earlier, passes}
 use Rattle.us_world.proofs.Searched.{parted, point_none, point_last}
 use Rattle.us_world.proofs.commits.earlier_at.Goals as goal
 

@@ -1,6 +1,6 @@
 use Rattle.std.proofs.Common.{◌≡◌, ◌++◌, drop, map}
 use Rattle.us_history.specs.Executions.{entries_of}
-use Rattle.us_world.specs.Found.{unlinked_past}
+use Rattle.us_world.specs.PastSearch.{unlinked_past}
 use Rattle.us_world.proofs.execution.entries_of.Given as goal
 
 -- the entries so far and of what is left are all

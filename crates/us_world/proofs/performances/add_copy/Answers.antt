@@ -2,7 +2,7 @@ use Rattle.std.proofs.Common.{◌≡◌, ◌∙◌, ◌++◌, ◌∷◌, [], ap,
 use Rattle.std.proofs.lemmas.Option.{slice_get_past, slice_get_read}
 use Rattle.std.proofs.lemmas.Result.{on_ok_weaker}
 use Rattle.us_history.specs.Histories.{Performed}
-use Rattle.us_world.specs.Found.{done_before}
+use Rattle.us_world.specs.PastSearch.{done_before}
 use Rattle.us_world.proofs.performances.add_copy.Goals as goal
 
 pub returns-then-place-list : goal.returns-then-place-list

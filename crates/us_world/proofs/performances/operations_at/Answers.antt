@@ -1,6 +1,6 @@
 use Rattle.std.proofs.Common.{◌∙◌, ◌+◌, ◌++◌, [], ap, append_assoc, drop, get_or, slice_get}
-use Rattle.us_world.specs.Found.{done_before, done_at}
-use Rattle.us_world.proofs.Counted.{done_turn}
+use Rattle.us_world.specs.PastSearch.{done_before, done_at}
+use Rattle.us_world.proofs.Places.{done_turn}
 use Rattle.us_world.proofs.performances.operations_at.Goals as goal
 
 pub loop-place-preserved : goal.loop-place-preserved

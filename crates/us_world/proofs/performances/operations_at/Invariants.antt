@@ -1,5 +1,5 @@
 use Rattle.std.proofs.Common.{◌≡◌, ◌++◌, drop}
-use Rattle.us_world.specs.Found.{done_at}
+use Rattle.us_world.specs.PastSearch.{done_at}
 use Rattle.us_world.proofs.performances.operations_at.Given as goal
 
 -- what was copied and what is left are all

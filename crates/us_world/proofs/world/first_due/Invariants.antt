@@ -1,5 +1,5 @@
 use Rattle.std.proofs.Common.{◌-◌, length}
-use Rattle.us_world.specs.Kept.{NoneDue}
+use Rattle.us_world.specs.WorldState.{NoneDue}
 use Rattle.us_world.proofs.world.first_due.Given as goal
 
 -- none so far

@@ -1,5 +1,5 @@
 use Rattle.std.proofs.Common.{◌≤◌, ◌-◌, length}
-use Rattle.us_world.specs.Kept.{AllMarked}
+use Rattle.us_world.specs.WorldState.{AllMarked}
 use Rattle.us_world.proofs.world.first_undelivered.Given as goal
 
 -- all so far were delivered

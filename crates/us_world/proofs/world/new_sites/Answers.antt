@@ -3,7 +3,7 @@ use Rattle.std.specs.List.{range_with_len}
 use Rattle.std.proofs.lemmas.List.{map-append}
 use Rattle.std.proofs.lemmas.List.FromFn.{map-range_with_len_more}
 use Rattle.us_model.specs.Sites.{new_site}
-use Rattle.us_world.specs.Kept.{site_of}
+use Rattle.us_world.specs.WorldState.{site_of}
 use Rattle.us_world.proofs.world.new_sites.Goals as goal
 
 pub loop-before-preserved : goal.loop-before-preserved

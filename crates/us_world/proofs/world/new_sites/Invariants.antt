@@ -1,7 +1,7 @@
 use Rattle.std.proofs.Common.{◌≡◌, map}
 use Rattle.std.specs.List.{range_with_len}
 use Rattle.us_model.specs.Sites.{new_site}
-use Rattle.us_world.specs.Kept.{site_of}
+use Rattle.us_world.specs.WorldState.{site_of}
 use Rattle.us_world.proofs.world.new_sites.Given as goal
 
 -- so many are made

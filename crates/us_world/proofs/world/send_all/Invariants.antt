@@ -1,5 +1,5 @@
 use Rattle.std.proofs.Common.{◌≡◌, ◌++◌}
-use Rattle.us_world.specs.Kept.{unmarked}
+use Rattle.us_world.specs.WorldState.{unmarked}
 use Rattle.us_world.proofs.world.send_all.Given as goal
 
 -- so many are on their way

@@ -1,6 +1,6 @@
 use Rattle.std.proofs.Common.{◌≡◌, ◌++◌, drop, map}
 use Rattle.us_model.specs.Worlds.{waits_of}
-use Rattle.us_world.specs.Kept.{site_of}
+use Rattle.us_world.specs.WorldState.{site_of}
 use Rattle.us_world.proofs.world.waits_of.Given as goal
 
 -- those so far and those of the sites that are left are all

@@ -1,5 +1,5 @@
 use Rattle.std.proofs.Common.{◌∙◌}
-use Rattle.us_kind.specs.Words.{bytes_eq}
+use Rattle.us_kind.specs.Comparison.{bytes_eq}
 use Rattle.us_kind.proofs.SameBytes.{same_bytes}
 use Rattle.us_kind.proofs.bytes.Bytes.same.Goals as goal
 

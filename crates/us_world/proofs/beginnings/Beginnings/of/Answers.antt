@@ -1,6 +1,6 @@
 use Rattle.std.proofs.Common.{◌∙◌, ap, slice_get}
 use Rattle.us_history.specs.Histories.{begun_of}
-use Rattle.us_world.proofs.Counted.{begun_none, begun_at}
+use Rattle.us_world.proofs.Places.{begun_none, begun_at}
 use Rattle.us_world.proofs.beginnings.Beginnings.of.Goals as goal
 
 pub returns-in-None : goal.returns-in-None

@@ -1,7 +1,7 @@
 use Rattle.std.proofs.Common.{◌∙◌, true, ap, sym, subst}
 use Rattle.std.specs.Prelude.{List}
 use Rattle.us_history.specs.Histories.{Committed}
-use Rattle.us_world.specs.Found.{IsIndexed, is_shown, found_at, greatest_found, PassFirst}
+use Rattle.us_world.specs.PastSearch.{IsIndexed, is_shown, found_at, greatest_found, PassFirst}
 use Rattle.us_world.proofs.Searched.{group_first, group_greatest, shown_falls}
 use Rattle.us_world.proofs.commits.Commits.last_shown.Goals as goal
 

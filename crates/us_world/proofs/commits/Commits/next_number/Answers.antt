@@ -6,4 +6,4 @@ use Rattle.us_world.proofs.commits.Commits.next_number.Goals as goal
 pub returns : goal.returns
 returns c =
     let all = both_groups c.args.session.now c.args.self.now c.places.result.now c.places-2.result.now c.places.ensures c.places-2.ensures in
-    subst (λ n. IfOk c.plus-2.result (λ number. number ≡ n + 1)) (c.in_ok-plus.ensures ∙ all) c.plus-2.ensures
+    subst (λ n. IfOk c.checked_sum-2.result (λ number. number ≡ n + 1)) (c.in_ok-checked_sum.ensures ∙ all) c.checked_sum-2.ensures

@@ -1,7 +1,7 @@
 use Rattle.std.proofs.Common.{◌≡◌, rules, subst}
 use Rattle.std.specs.Prelude.{Some, List, map, filter}
 use Rattle.us_history.specs.Histories.{Committed}
-use Rattle.us_world.specs.Found.{is_in_group, found_at}
+use Rattle.us_world.specs.PastSearch.{is_in_group, found_at}
 use Rattle.us_world.proofs.Searched.{group_found}
 use Rattle.us_world.proofs.commits.Commits.places.Goals as goal
 

@@ -1,6 +1,6 @@
 use Rattle.std.proofs.Common.{◌≡◌, ◌+◌, ◌∙◌, ◌++◌, ◌∷◌, [], ap, sym}
 use Rattle.us_history.specs.Histories.{committed_in}
-use Rattle.us_world.proofs.Counted.{numbered_more}
+use Rattle.us_world.proofs.Places.{numbered_more}
 use Rattle.us_world.proofs.commits.Commits.push.Goals as goal
 
 pub invariant_of-self-in-Ok : goal.invariant_of-self-in-Ok

@@ -1,11 +1,11 @@
 use Rattle.std.proofs.Common.{◌≡◌, ◌∙◌, ap, subst}
 use Rattle.std.specs.Prelude.{List, map}
-use Rattle.us_kind.specs.Words.{In}
+use Rattle.us_kind.specs.Comparison.{In}
 use Rattle.us_history.specs.Histories.{Committed}
 use Rattle.us_history.specs.Arbitration.{arbitrated}
 use Rattle.us_history.specs.Executions.{entries_of}
 use Rattle.us_snapshots.proofs.Entries.{in_arbitrated}
-use Rattle.us_world.specs.Found.{unlinked_past}
+use Rattle.us_world.specs.PastSearch.{unlinked_past}
 use Rattle.us_world.proofs.Searched.{committed_searchable}
 use Rattle.us_world.proofs.Unlinked.{execution_unlinked}
 use Rattle.us_world.proofs.history.History.execution.Goals as goal

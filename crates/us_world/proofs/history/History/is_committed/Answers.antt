@@ -1,7 +1,7 @@
 use Rattle.std.proofs.Common.{◌∙◌, ap}
 use Rattle.std.specs.List.{list_any}
-use Rattle.us_kind.specs.Words.{tid_eq}
-use Rattle.us_world.proofs.Counted.{committed_tid}
+use Rattle.us_kind.specs.Comparison.{tid_eq}
+use Rattle.us_world.proofs.Places.{committed_tid}
 use Rattle.us_world.proofs.history.History.is_committed.Goals as goal
 
 pub returns : goal.returns

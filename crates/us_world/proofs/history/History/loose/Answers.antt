@@ -1,6 +1,6 @@
 use Rattle.std.proofs.Common.{subst}
 use Rattle.std.specs.Prelude.{List}
-use Rattle.us_kind.specs.Words.{In}
+use Rattle.us_kind.specs.Comparison.{In}
 use Rattle.us_history.specs.Histories.{Begun}
 use Rattle.us_world.proofs.Searched.{in_turn, begun_searchable}
 use Rattle.us_world.proofs.history.History.loose.Goals as goal

@@ -1,6 +1,6 @@
 use Rattle.std.proofs.Common.{◌≡◌, ◌++◌, drop}
 use Rattle.us_history.specs.Executions.{loose_of}
-use Rattle.us_world.specs.Found.{unlinked_past}
+use Rattle.us_world.specs.PastSearch.{unlinked_past}
 use Rattle.us_world.proofs.history.History.loose.Given as goal
 
 -- those so far and of what is left are all

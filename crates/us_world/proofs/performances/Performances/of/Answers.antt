@@ -1,8 +1,8 @@
 use Rattle.std.proofs.Common.{◌≡◌, ◌∙◌, ap}
 use Rattle.std.proofs.lemmas.Result.{IfOk-weaker}
 use Rattle.us_history.specs.Histories.{ops_of}
-use Rattle.us_world.specs.Found.{done_at}
-use Rattle.us_world.proofs.Counted.{ops_found}
+use Rattle.us_world.specs.PastSearch.{done_at}
+use Rattle.us_world.proofs.Places.{ops_found}
 use Rattle.us_world.proofs.performances.Performances.of.Goals as goal
 
 pub returns : goal.returns

@@ -5,7 +5,7 @@ use Rattle.us_world.proofs.world.World.flush.Goals as goal
 
 pub loop-place-preserved : goal.loop-place-preserved
 loop-place-preserved c =
-    let come = c.in_ok-deliver_at.ensures.comes in
+    let come = c.in_ok-deliver_at.ensures.deliver_packet in
     record {
       came =
           delivered_more c.args.from c.args.to c.args.self.now c.loop-place.self c.next_due.new.self c.deliver_at.new.self c.in-Some.place come.sent
@@ -17,7 +17,7 @@ loop-place-preserved c =
 
 pub returns-in_err-deliver_at-clause-stopped : goal.returns-in_err-deliver_at-clause-stopped
 returns-in_err-deliver_at-clause-stopped c =
-    let come = c.in_err-deliver_at.ensures.comes in
+    let come = c.in_err-deliver_at.ensures.deliver_packet in
     let p = err_from_is_err_and c.from_residual.result c.from_residual.ensures.1 in
     rw (p.1, p.2) (delivered_stops c.in_err-deliver_at.field-0.0 c.args.from c.args.to c.args.self.now c.loop-place.self c.next_due.new.self
     c.in-Some.place come.sent c.loop-place.invariant.came

@@ -1,12 +1,12 @@
 use Rattle.std.proofs.Common.{◌≤◌, ◌-◌}
 use Rattle.us_world.specs.Limits.{Delivers}
-use Rattle.us_world.specs.Lines.{GoesBy}
+use Rattle.us_world.specs.Lines.{AdvancesBy}
 use Rattle.us_world.proofs.world.World.flush.Given as goal
 
 -- packets came, each time the least
 abbrev pub invariant-loop-place : goal.invariant-loop-place
 invariant-loop-place l = record {
-  came : GoesBy (Delivers l.from l.to) l.fn.self l.self;
+  came : AdvancesBy (Delivers l.from l.to) l.fn.self l.self;
   forward : l.fn.self.cursor ≤ l.self.cursor;
 }
 

@@ -3,10 +3,10 @@ use Rattle.std.specs.Prelude.{OnOk, IfErr}
 use Rattle.us_schedule.specs.declared.line.Line.{Line}
 use Rattle.us_schedule.specs.declared.line.Line.TheVariants as line
 use Rattle.us_model.specs.declared.event.Event.TheVariants as event
-use Rattle.us_world.specs.Kept.{after_at}
+use Rattle.us_world.specs.WorldState.{after_at}
 use Rattle.us_world.specs.Limits.{Performs}
 use Rattle.us_world.specs.Lines.{IsPerformed, IsStopped}
-use Rattle.us_world.proofs.Happenings.{one_goes, one_stops}
+use Rattle.us_world.proofs.WorldEvents.{one_goes, one_stops}
 use Rattle.us_world.proofs.Lines.{one_opening, one_sending, one_closing}
 use Rattle.us_world.proofs.world.World.perform.Goals as goal
 

@@ -1,5 +1,0 @@
-use Rattle.us_client_wire.proofs.RequestLaws.{reads_requests}
-use Rattle.us_client_wire.proofs.laws.requests_are_read_as_spelled.Goals as goal
-
-pub returns : goal.returns
-returns c = reads_requests

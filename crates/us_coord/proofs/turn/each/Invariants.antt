@@ -1,0 +1,14 @@
+use Rattle.std.proofs.Common.{◌≡◌, ◌++◌, take, drop}
+use Rattle.us_model.specs.Coordinators.{each_session}
+use Rattle.us_coord.specs.Steps.{acts}
+use Rattle.us_coord.proofs.Posts.{post}
+use Rattle.us_coord.proofs.turn.each.Given as goal
+
+-- the sessions that had their turn, and what the turns of the rest make, are what all turns make, in one context
+abbrev pub invariant-loop-i : goal.invariant-loop-i
+invariant-loop-i l = record {
+  post : post l.context ≡ post l.fn.context;
+  context : (each_session (acts l.turn) l.context (drop l.i l.sessions)).context ≡ (each_session (acts l.turn) l.fn.context l.fn.sessions).context;
+  sessions : take l.i l.sessions ++ (each_session (acts l.turn) l.context (drop l.i l.sessions)).sessions
+      ≡ (each_session (acts l.turn) l.fn.context l.fn.sessions).sessions;
+}

@@ -1,0 +1,260 @@
+//! A coordinator and its sessions.
+ghost use Rattle.std.specs.Prelude.{◌≡◌, ◌<◌, ◌++◌, not, IfOk, OnOk};
+ghost use Rattle.us_base.specs.Shape.{IsShape};
+ghost use Rattle.us_model.specs.Sessions.{bytes, close, version, prepared, run_session};
+ghost use Rattle.us_model.specs.Coordinators.{new_coordinator, each_acts, new_session, opened, refused_open, is_over, remembered, open_in, waits_in};
+ghost use Rattle.us_coord.specs.Steps.{acts};
+
+use crate::codec::encoded;
+use crate::session::{checked_successor, new_stream, waits_for_nothing};
+use crate::turn::{Turn, each};
+use crate::waits::put_waits_in;
+use std::alloc::Global;
+use std::marker::Model;
+use us_base::{Shape, Vector};
+use us_client_wire::Reply;
+use us_exec::WaitingRequest;
+use us_kind::{Items, Memory, Tid};
+use us_model::{Await, ClientOut, Context, Note, Outputs, Refusal, Session, View, Vote};
+use us_peer_wire::{Actor, Version};
+use us_value::Catalog;
+
+/// A coordinator. A call that takes an event takes what the actor has given out so far, and gives it back with what the rule adds.
+#[derive(Drop)]
+pub struct Coordinator {
+    seq: u64,
+    opens: u64,
+    sessions: Vec<Session>,
+}
+
+impl Model for Coordinator {
+    ghost use Rattle.us_model.specs.State.{Coordinator};
+
+    ghost Value = { Coordinator };
+
+    ghost view = { λ a. record { seq = a.seq; opens = a.opens; sessions = a.sessions.items } };
+}
+
+impl Coordinator {
+    /// A coordinator at which nothing has happened.
+    pub fn new(alloc: Global) -> Coordinator
+        ensures { result ≡ new_coordinator }
+    {
+        Coordinator {
+            seq: 0,
+            opens: 0,
+            sessions: Vec::new(alloc),
+        }
+    }
+
+    /// A client opens a session.
+    pub fn open(&mut self, alloc: Global, coord: u8, mut out: Outputs) -> Result<Outputs, Memory>
+        ensures coordinator { OnOk result (self.new ≡ (opened coord self.old out).coordinator) }
+        ensures out { IfOk result (λ given. given ≡ (opened coord self.old out).out) }
+    {
+        let number = checked_successor(self.opens)?;
+        out.notes.push(Note::Opened {
+            coord,
+            session: number,
+        })?;
+        self.sessions.push(session_of(alloc, number))?;
+        self.opens = number;
+        Ok(out)
+    }
+
+    /// Each session's turn. Those that are over then are forgotten.
+    fn turn(
+        &mut self,
+        alloc: Global,
+        view: &View,
+        turn: &Turn<'_>,
+        out: Outputs,
+    ) -> Result<Outputs, Memory>
+        requires site { view.now.me.site < 10 }
+        requires shape { IsShape view.now.shape }
+        ensures coordinator { OnOk result (self.new ≡ (each_acts (acts turn.now) view.now self.old out).coordinator) }
+        ensures out { IfOk result (λ given. given ≡ (each_acts (acts turn.now) view.now self.old out).out) }
+    {
+        let mut context = Context {
+            me: view.me,
+            shape: view.shape,
+            base: view.base,
+            seq: self.seq,
+            out,
+        };
+        each(alloc, &mut context, self.sessions.as_mut_slice(), turn)?;
+        forget(&mut self.sessions);
+        self.seq = context.seq;
+        Ok(context.out)
+    }
+
+    /// A client's bytes come to the session of this number, if it is open.
+    pub fn bytes(
+        &mut self,
+        alloc: Global,
+        catalog: &Catalog,
+        view: &View,
+        session: u64,
+        piece: &[u8],
+        out: Outputs,
+    ) -> Result<Outputs, Memory>
+        requires site { view.now.me.site < 10 }
+        requires shape { IsShape view.now.shape }
+        ensures coordinator { OnOk result (self.new ≡ (each_acts (bytes catalog.now session piece.now) view.now self.old out).coordinator) }
+        ensures out { IfOk result (λ given. given ≡ (each_acts (bytes catalog.now session piece.now) view.now self.old out).out) }
+    {
+        let turn = Turn::Bytes {
+            catalog,
+            number: session,
+            piece,
+        };
+        self.turn(alloc, view, &turn, out)
+    }
+
+    /// The client closes the session of this number, if it is open.
+    pub fn close(
+        &mut self,
+        alloc: Global,
+        view: &View,
+        session: u64,
+        out: Outputs,
+    ) -> Result<Outputs, Memory>
+        requires site { view.now.me.site < 10 }
+        requires shape { IsShape view.now.shape }
+        ensures coordinator { OnOk result (self.new ≡ (each_acts (close session) view.now self.old out).coordinator) }
+        ensures out { IfOk result (λ given. given ≡ (each_acts (close session) view.now self.old out).out) }
+    {
+        self.turn(alloc, view, &Turn::Close { number: session }, out)
+    }
+
+    /// The version for which an operation waits comes. One that nobody awaits changes nothing.
+    pub fn version(
+        &mut self,
+        alloc: Global,
+        view: &View,
+        received: &Version,
+        out: Outputs,
+    ) -> Result<Outputs, Memory>
+        requires site { view.now.me.site < 10 }
+        requires shape { IsShape view.now.shape }
+        ensures coordinator { OnOk result (self.new ≡ (each_acts (version received.now) view.now self.old out).coordinator) }
+        ensures out { IfOk result (λ given. given ≡ (each_acts (version received.now) view.now self.old out).out) }
+    {
+        self.turn(alloc, view, &Turn::Version { version: received }, out)
+    }
+
+    /// A partition tells under which timestamp it has prepared a transaction. What nobody awaits changes nothing.
+    pub fn prepared(
+        &mut self,
+        alloc: Global,
+        view: &View,
+        one: Vote,
+        tid: Tid,
+        out: Outputs,
+    ) -> Result<Outputs, Memory>
+        requires site { view.now.me.site < 10 }
+        requires shape { IsShape view.now.shape }
+        ensures coordinator { OnOk result (self.new ≡ (each_acts (prepared one.part tid one.ts) view.now self.old out).coordinator) }
+        ensures out { IfOk result (λ given. given ≡ (each_acts (prepared one.part tid one.ts) view.now self.old out).out) }
+    {
+        self.turn(alloc, view, &Turn::Prepared { one, tid }, out)
+    }
+
+    /// Each session runs: its requests are performed, until one waits.
+    pub fn run(
+        &mut self,
+        alloc: Global,
+        catalog: &Catalog,
+        view: &View,
+        out: Outputs,
+    ) -> Result<Outputs, Memory>
+        requires site { view.now.me.site < 10 }
+        requires shape { IsShape view.now.shape }
+        ensures coordinator { OnOk result (self.new ≡ (each_acts (run_session catalog.now) view.now self.old out).coordinator) }
+        ensures out { IfOk result (λ given. given ≡ (each_acts (run_session catalog.now) view.now self.old out).out) }
+    {
+        self.turn(alloc, view, &Turn::Run { catalog }, out)
+    }
+
+    /// How many of its sessions are open.
+    pub fn open_sessions(&self) -> usize
+        ensures { result ≡ open_in self.now.sessions }
+    {
+        open_count(self.sessions.as_slice())
+    }
+
+    /// The open sessions with unanswered requests, in order, each with the first one's place, are put behind those that are there.
+    pub fn put_waits(&self, me: &Actor, waits: &mut Vec<WaitingRequest>) -> Result<(), Memory>
+        ensures { OnOk result (waits.new.items ≡ waits.old.items ++ waits_in me.now.site me.now.actor self.now.sessions) }
+    {
+        put_waits_in(me, self.sessions.as_slice(), waits)
+    }
+}
+
+/// Whether the session isn't over: it is open or still commits.
+fn is_remembered(session: &Session) -> bool
+    ensures { result ≡ not (is_over session.now) }
+{
+    !session.closed || !waits_for_nothing(session)
+}
+
+/// Forgets the sessions that are over.
+fn forget(sessions: &mut Vec<Session>)
+    ensures { sessions.new.items ≡ remembered sessions.old.items }
+{
+    sessions.retain(|session| is_remembered(session));
+}
+
+/// How many of the sessions are open.
+fn open_count(sessions: &[Session]) -> usize
+    ensures { result ≡ open_in sessions.now }
+{
+    let mut open = 0;
+    for session in sessions {
+        if session.closed {
+            continue;
+        }
+        open += 1;
+    }
+    open
+}
+
+/// Refuses to open a session at a site that has as many open ones as it may have.
+pub fn refuse_open(
+    alloc: Global,
+    shape: Shape,
+    coord: u8,
+    mut out: Outputs,
+) -> Result<Outputs, Memory>
+    ensures { IfOk result (λ given. given ≡ refused_open coord shape out) }
+{
+    let reply = Reply::Refused {
+        at: 0,
+        number: Refusal::TooManySessions.number(),
+    };
+    out.client.push(ClientOut {
+        coord,
+        session: 0,
+        bytes: encoded(alloc, shape, &reply)?,
+        ends: true,
+    })?;
+    Ok(out)
+}
+
+/// A session of which nothing has come.
+fn session_of(alloc: Global, number: u64) -> Session
+    ensures { result ≡ new_session number }
+{
+    Session {
+        number,
+        past: Vector::zero(),
+        asked: 0,
+        stream: new_stream(alloc),
+        begun: false,
+        count: 0,
+        running: None,
+        waits: Await::Nothing,
+        requests: Items::new(alloc),
+        closed: false,
+    }
+}

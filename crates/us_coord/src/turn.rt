@@ -1,0 +1,80 @@
+//! The sessions of a coordinator take an event in turn.
+ghost use Rattle.std.specs.Prelude.{◌≡◌, ◌<◌, OnOk};
+ghost use Rattle.us_base.specs.Shape.{IsShape};
+ghost use Rattle.us_model.specs.Coordinators.{each_session};
+ghost use Rattle.us_coord.specs.Steps.{acts};
+
+use crate::answer::{take_prepared, take_version};
+use crate::running::run;
+use crate::stream::{close, take_bytes};
+use std::alloc::Global;
+use us_kind::{Memory, Tid};
+use us_model::{Context, Session, Vote};
+use us_peer_wire::Version;
+use us_value::Catalog;
+
+/// What each session is asked to do: the bytes, the version and the timestamp concern one of them at most.
+#[derive(Drop)]
+pub enum Turn<'a> {
+    Bytes {
+        catalog: &'a Catalog,
+        number: u64,
+        piece: &'a [u8],
+    },
+    Close {
+        number: u64,
+    },
+    Version {
+        version: &'a Version,
+    },
+    Prepared {
+        one: Vote,
+        tid: Tid,
+    },
+    Run {
+        catalog: &'a Catalog,
+    },
+}
+
+/// One session's turn.
+fn act(
+    alloc: Global,
+    context: &mut Context,
+    session: &mut Session,
+    turn: &Turn<'_>,
+) -> Result<(), Memory>
+    requires site { context.old.me.site < 10 }
+    requires shape { IsShape context.old.shape }
+    ensures context { OnOk result (context.new ≡ (acts turn.now context.old session.old).context) }
+    ensures session { OnOk result (session.new ≡ (acts turn.now context.old session.old).session) }
+{
+    match turn {
+        Turn::Bytes {
+            catalog,
+            number,
+            piece,
+        } => take_bytes(alloc, catalog, context, session, *number, piece),
+        Turn::Close { number } => close(alloc, context, session, *number),
+        Turn::Version { version } => take_version(alloc, context, session, version),
+        Turn::Prepared { one, tid } => take_prepared(alloc, context, session, *one, tid),
+        Turn::Run { catalog } => run(alloc, catalog, context, session),
+    }
+}
+
+/// Each session's turn, by number.
+pub fn each(
+    alloc: Global,
+    context: &mut Context,
+    sessions: &mut [Session],
+    turn: &Turn<'_>,
+) -> Result<(), Memory>
+    requires site { context.old.me.site < 10 }
+    requires shape { IsShape context.old.shape }
+    ensures context { OnOk result (context.new ≡ (each_session (acts turn.now) context.old sessions.old).context) }
+    ensures sessions { OnOk result (sessions.new ≡ (each_session (acts turn.now) context.old sessions.old).sessions) }
+{
+    for i in 0..sessions.len() {
+        act(alloc, context, &mut sessions[i], turn)?;
+    }
+    Ok(())
+}
