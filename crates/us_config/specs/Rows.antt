@@ -14,7 +14,8 @@ pub record WorkedConfigurations : Type 0 where
     conflicts = [];
     plan = record { peers = codes "127.0.0.1:7101" ∷ []; clients = codes "127.0.0.1:7201" ∷ []; tick = 50; suspect = 10000 };
   })
-  pub counter : config_said (codes "partitions = 16\n[[space]]\nnumber = 255\nkind = 'counter'\nconflicts = [['take','give']]\n[node]\npeers = ['a:1']\ntick = 7")
+  pub counter : config_said
+      (codes "partitions = 16\n[[space]]\nnumber = 255\nkind = 'counter'\nconflicts = [['take','give']]\n[node]\npeers = ['a:1']\ntick = 7")
       ≡ Ok (record {
         shape = record { f = 0; parts = 16 };
         catalog = (255, kind.Counter) ∷ [];

@@ -74,7 +74,8 @@ module _ {K X : Type 0} {R : K → K → Ordering} (o : IsTotalOrder R) (same : 
           let once = changed default is_default m a f in
           get-with_value once b (g (value_at default once b)) q
           ∙ ap (λ r. cond (eq_by_cmp R q b) (held (g r)) (get once q)) (value_at-with_value m a (f (value_at default m a)) b)
-          ∙ ap (λ r. cond (eq_by_cmp R q b) (held (g (cond (eq_by_cmp R b a) (f (value_at default m a)) (value_at default m b)))) r) (get-with_value m a (f (value_at default m a)) q)
+          ∙ ap (λ r. cond (eq_by_cmp R q b) (held (g (cond (eq_by_cmp R b a) (f (value_at default m a)) (value_at default m b)))) r)
+          (get-with_value m a (f (value_at default m a)) q)
 
       -- two changes that may be exchanged at each value give one map in either order
       turned : (m : FinMap R X) (a b : K) (f g : X → X) → ((x : X) → g (f x) ≡ f (g x)) → (q : K) → two_changes m a b f g q ≡ two_changes m b a g f q

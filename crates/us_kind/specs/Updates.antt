@@ -66,12 +66,14 @@ abbrev pub with_sums : {O E : Type 0} → (Stamped O E → ℕ) → List (Stampe
 with_sums sum us = map (λ u. with_sum (sum u) u) us
 
 -- the effect of u is what was prepared for it at the state of all those that it is after
-pub record WasPrepared {S O E : Type 0} (initially : S) (updated : S → E → Stamp → S) (prepared : Tag → O → S → Option E) (after : Tag → Tag → Bool) (us : List (Stamped O E)) (u : Stamped O E) : Type 0 where
+pub record WasPrepared {S O E : Type 0} (initially : S) (updated : S → E → Stamp → S) (prepared : Tag → O → S → Option E)
+    (after : Tag → Tag → Bool) (us : List (Stamped O E)) (u : Stamped O E) : Type 0 where
   pub sum : Stamped O E → ℕ
   pub effect : prepared (tag_of u.stamp) u.op (state_after updated initially (with_sums sum (before after u us))) ≡ Some u.effect
 
 -- a list of updates in arbitration order, with all that any of them is after
-pub record IsHistory {S O E : Type 0} (initially : S) (updated : S → E → Stamp → S) (prepared : Tag → O → S → Option E) (after : Tag → Tag → Bool) (us : List (Stamped O E)) : Type 0 where
+pub record IsHistory {S O E : Type 0} (initially : S) (updated : S → E → Stamp → S) (prepared : Tag → O → S → Option E)
+    (after : Tag → Tag → Bool) (us : List (Stamped O E)) : Type 0 where
   pub ordered : AllLater StandsBefore us
   pub made : (u : Stamped O E) → In u us → WasPrepared initially updated prepared after us u
 
@@ -88,14 +90,16 @@ OrderIsFree {S} {E} O updated =
     (s : S) (us vs : List (Stamped O E)) → IsPermutation us vs → state_after updated s vs ≡ state_after updated s us
 
 -- the effect of u is what was prepared for it at the state of all those that it is after, applied in any order
-pub record WasPreparedInAnyOrder {S O E : Type 0} (initially : S) (updated : S → E → Stamp → S) (prepared : Tag → O → S → Option E) (after : Tag → Tag → Bool) (us : List (Stamped O E)) (u : Stamped O E) : Type 0 where
+pub record WasPreparedInAnyOrder {S O E : Type 0} (initially : S) (updated : S → E → Stamp → S) (prepared : Tag → O → S → Option E)
+    (after : Tag → Tag → Bool) (us : List (Stamped O E)) (u : Stamped O E) : Type 0 where
   pub sum : Stamped O E → ℕ
   pub met : List (Stamped O E)
   pub order : IsPermutation (with_sums sum (before after u us)) met
   pub effect : prepared (tag_of u.stamp) u.op (state_after updated initially met) ≡ Some u.effect
 
 -- a list of updates in arbitration order, with all that any of them is after, each prepared over those in any order
-pub record IsHistoryInAnyOrder {S O E : Type 0} (initially : S) (updated : S → E → Stamp → S) (prepared : Tag → O → S → Option E) (after : Tag → Tag → Bool) (us : List (Stamped O E)) : Type 0 where
+pub record IsHistoryInAnyOrder {S O E : Type 0} (initially : S) (updated : S → E → Stamp → S) (prepared : Tag → O → S → Option E)
+    (after : Tag → Tag → Bool) (us : List (Stamped O E)) : Type 0 where
   pub ordered : AllLater StandsBefore us
   pub made : (u : Stamped O E) → In u us → WasPreparedInAnyOrder initially updated prepared after us u
 

@@ -1,4 +1,4 @@
-//! What all crates share: out of memory, lists that contracts see as lists, and the identities of
+//! What all crates share: out of memory, lists that contracts see as lists, checked sums, and the identities of
 //! transactions and updates.
 #![tactic(auto)]
 
@@ -9,6 +9,7 @@ mod laws;
 mod memory;
 mod replicated;
 mod slot;
+mod sums;
 #[cfg(test)]
 mod tests;
 
@@ -19,3 +20,4 @@ pub use laws::{answers_in_any_order, order_is_free};
 pub use memory::Memory;
 pub use replicated::Replicated;
 pub use slot::Slot;
+pub use sums::checked_sum;

@@ -69,3 +69,10 @@ fn out_of_memory_in_words(rt: HostRuntime) -> Result<(), Fail> {
     assert_eq!(rt; text.as_str().as_bytes(), b"out of memory".as_slice());
     Ok(())
 }
+
+#[test]
+fn sums_that_do_not_fit(rt: HostRuntime) -> Result<(), Fail> {
+    assert_eq!(rt; checked_sum(u64::MAX - 1, 1), Ok(u64::MAX));
+    assert_eq!(rt; checked_sum(u64::MAX, 1), Err(Memory));
+    Ok(())
+}

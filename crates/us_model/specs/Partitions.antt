@@ -1,5 +1,7 @@
 -- The rules of a partition. Each takes the partition's own actor.
-use Rattle.std.specs.Prelude.{ℕ, ◌+◌, ◌-◌, ◌^◌, ◌%◌, List, [], ◌∷◌, ◌++◌, Bool, false, not, ◌&&◌, if◌then◌else◌, nat_le, nat_lt, Option, Some, None, max, min, filter, position, remove, slice_get}
+use Rattle.std.specs.Prelude.{ℕ, ◌+◌, ◌-◌, ◌^◌, ◌%◌, max, min, Option, Some, None}
+use Rattle.std.specs.Prelude.{List, [], ◌∷◌, ◌++◌, filter, position, remove, slice_get}
+use Rattle.std.specs.Prelude.{Bool, false, not, ◌&&◌, if◌then◌else◌, nat_le, nat_lt}
 use Rattle.std.specs.List.{list_any}
 use Rattle.us_kind.specs.Comparison.{tid_eq}
 use Rattle.us_kind.specs.declared.identity.Tid.{Tid}

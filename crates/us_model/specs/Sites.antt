@@ -1,5 +1,6 @@
 -- One step of a site: an event is taken by one of its actors, which then wakes.
-use Rattle.std.specs.Prelude.{ℕ, ◌+◌, ◌-◌, List, [], ◌∷◌, ◌++◌, length, Bool, true, false, ◌&&◌, ◌==◌, if◌then◌else◌, nat_lt, nat_le, Option, Some, None, slice_get, slice_set, map}
+use Rattle.std.specs.Prelude.{ℕ, ◌+◌, ◌-◌, List, [], ◌∷◌, ◌++◌, length, Option, Some, None, slice_get, slice_set, map}
+use Rattle.std.specs.Prelude.{Bool, true, false, ◌&&◌, ◌==◌, if◌then◌else◌, nat_lt, nat_le}
 use Rattle.std.specs.List.{range_with_len}
 use Rattle.us_base.specs.Vector.{zero}
 use Rattle.us_base.specs.declared.shape.Shape.{Shape}
@@ -72,7 +73,8 @@ take_message me shape from w (message.Get tid place at snapshot item op own) =
 take_message me shape from w (message.Version v) = all_sessions (version v) me shape w
 take_message me shape from w (message.Prepare tid snapshot writes) =
     if may_prepare me w.shard.partition tid snapshot
-    then with_partition w (prepared_here me w.shard.partition tid snapshot writes) (answer_to me from (message.Prepared tid (timestamp_for me w.shard.partition snapshot)) ∷ [])
+    then with_partition w (prepared_here me w.shard.partition tid snapshot writes)
+    (answer_to me from (message.Prepared tid (timestamp_for me w.shard.partition snapshot)) ∷ [])
     else w
 take_message me shape from w (message.Prepared tid ts) = all_sessions (prepared from.actor tid ts) me shape w
 take_message me shape from w (message.Commit tid vector) = with_partition w (commit me w.shard.partition tid vector) []
@@ -156,7 +158,8 @@ with_shard site actor w = record { site = record site { shards = slice_set site.
 
 abbrev pub step_of : Site → Event → Actor → Option Shard → Stepped
 step_of site e me None = record { site = site; out = no_outputs }
-step_of site e me (Some shard) = with_shard site me.actor (wake me site.settings (take_event me site.settings (is_full site) (record { shard = shard; out = no_outputs }) e))
+step_of site e me (Some shard) =
+    with_shard site me.actor (wake me site.settings (take_event me site.settings (is_full site) (record { shard = shard; out = no_outputs }) e))
 
 abbrev pub site_step : Site → Event → Stepped
 site_step site e = step_of site e (record { site = site.number; actor = actor_of e }) (shard_at site.shards (actor_of e))

@@ -108,8 +108,10 @@ unfolding at_tag
 at_tag-commutes q o (Written v ss) (Written w ts) s t = on (tie q s) (tie q t) (is_in q ss) (is_in q ts)
   where
     on : (x y a b : Bool)
-        → cond y (Some (written w (cond b (Some None) (cond x (Some (written v (cond a (Some None) o))) (cond a (Some None) o))))) (cond b (Some None) (cond x (Some (written v (cond a (Some None) o))) (cond a (Some None) o)))
-        ≡ cond x (Some (written v (cond a (Some None) (cond y (Some (written w (cond b (Some None) o))) (cond b (Some None) o))))) (cond a (Some None) (cond y (Some (written w (cond b (Some None) o))) (cond b (Some None) o)))
+        → cond y (Some (written w (cond b (Some None) (cond x (Some (written v (cond a (Some None) o))) (cond a (Some None) o)))))
+        (cond b (Some None) (cond x (Some (written v (cond a (Some None) o))) (cond a (Some None) o)))
+        ≡ cond x (Some (written v (cond a (Some None) (cond y (Some (written w (cond b (Some None) o))) (cond b (Some None) o)))))
+        (cond a (Some None) (cond y (Some (written w (cond b (Some None) o))) (cond b (Some None) o)))
     on true true true true = refl
     on true true true false = refl
     on true true false true = refl
@@ -221,7 +223,8 @@ other_stays : (u : Stamped MultiOp MultiEffect) (o : Option (Option (List ℕ)))
 unfolding entry_after
 other_stays u o [] unnamed apart = refl
 other_stays u o (v ∷ us) unnamed apart =
-    ap (λ o. entry_after (tag_of u.stamp) o us) (at_tag-other (tag_of u.stamp) o v.effect (tag_of v.stamp) (unnamed v (inl refl)) (on (tie (tag_of u.stamp) (tag_of v.stamp)) refl))
+    ap (λ o. entry_after (tag_of u.stamp) o us)
+    (at_tag-other (tag_of u.stamp) o v.effect (tag_of v.stamp) (unnamed v (inl refl)) (on (tie (tag_of u.stamp) (tag_of v.stamp)) refl))
     ∙ other_stays u o us (λ w i. unnamed w (inr i)) apart.1
   where
     on : (b : Bool) → tie (tag_of u.stamp) (tag_of v.stamp) ≡ b → tie (tag_of u.stamp) (tag_of v.stamp) ≡ false
@@ -250,7 +253,8 @@ unfolding entry_after
 kept q [] u order unnamed i t = absurd i
 kept q (v ∷ us) u order unnamed (inl e) t =
     let own : tag_of v.stamp ≡ q = ap (λ (w : Stamped MultiOp MultiEffect). tag_of w.stamp) e ∙ t in
-    ap (λ o. entry_after q o us) (at_tag-own q v.effect (tag_of v.stamp) (unnamed v (inl refl)) (subst (λ k. tie k (tag_of v.stamp) ≡ true) own (tie_itself (tag_of v.stamp))))
+    ap (λ o. entry_after q o us)
+    (at_tag-own q v.effect (tag_of v.stamp) (unnamed v (inl refl)) (subst (λ k. tie k (tag_of v.stamp) ≡ true) own (tie_itself (tag_of v.stamp))))
     ∙ subst (λ k. entry_after k (Some (Some (worth v.effect))) us ≡ Some (Some (worth v.effect))) own
     (other_stays v (Some (Some (worth v.effect))) us (λ w i. subst (λ k. names k w.effect ≡ false) (sym own) (unnamed w (inr i))) order.0)
     ∙ ap (λ (w : Stamped MultiOp MultiEffect). Some (Some (worth w.effect))) e
@@ -286,7 +290,8 @@ wrote q z (u ∷ us) order h = on (names q u.effect) (tie q (tag_of u.stamp)) re
     on false false ea eb again = later (again (sym (ap (λ o. entry_after q o us) (at_tag-other q None u.effect (tag_of u.stamp) ea eb)) ∙ h))
     on false true ea eb again =
         let own = tie_same q (tag_of u.stamp) eb in
-        let now : entry_after q (Some (Some (worth u.effect))) us ≡ Some (Some z) = sym (ap (λ o. entry_after q o us) (at_tag-own q u.effect (tag_of u.stamp) ea eb))
+        let now : entry_after q (Some (Some (worth u.effect))) us ≡ Some (Some z) =
+        sym (ap (λ o. entry_after q o us) (at_tag-own q u.effect (tag_of u.stamp) ea eb))
         ∙ h in
         record { update = u; here = inl refl; tag = sym own; value = value_kept (any_named q us) own now }
       where
@@ -447,7 +452,8 @@ entries_in m z q e =
 
 -- ---- what a read answers
 
-module _ (after : Tag → Tag → Bool) (us : List (Stamped MultiOp MultiEffect)) (order : AllLater StandsBefore us) (made : (u : Stamped MultiOp MultiEffect) → In u us → WasMade after us u) where
+module _ (after : Tag → Tag → Bool) (us : List (Stamped MultiOp MultiEffect)) (order : AllLater StandsBefore us)
+    (made : (u : Stamped MultiOp MultiEffect) → In u us → WasMade after us u) where
   -- a write that names a tag is after it
   named_after : (v : Stamped MultiOp MultiEffect) → In v us → (q : Tag) → names q v.effect ≡ true → after (tag_of v.stamp) q ≡ true
   unfolding names

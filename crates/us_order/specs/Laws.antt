@@ -51,4 +51,5 @@ HistoriesAscend = (settings : Settings) → HasOnePartition settings → (hs : L
 
 -- the execution of each run is well formed
 abbrev pub ExecutionsAreWellFormed : Type 0
-ExecutionsAreWellFormed = (settings : Settings) → HasOnePartition settings → (hs : List WorldEvent) → IsWellFormed (execution_of (run hs (start settings)).notes)
+ExecutionsAreWellFormed =
+    (settings : Settings) → HasOnePartition settings → (hs : List WorldEvent) → IsWellFormed (execution_of (run hs (start settings)).notes)

@@ -116,7 +116,8 @@ a_number = number_between_at w64 0 largest_number
 unfoldable pub get_at : Shape → Decoder Message
 get_at shape =
     made_at (λ p. message.Get p.0 p.1.0 p.1.1.0 p.1.1.1.0 p.1.1.1.1.0 p.1.1.1.1.1.0 p.1.1.1.1.1.1)
-    (both_at (tid_at shape) (both_at (number_at w8) (both_at a_number (both_at (vector_at shape) (both_at item_at (both_at op_at (list_at 0 longest_list (own_at shape))))))))
+    (both_at (tid_at shape) (both_at (number_at w8) (both_at a_number (both_at (vector_at shape)
+    (both_at item_at (both_at op_at (list_at 0 longest_list (own_at shape))))))))
 
 unfoldable pub version_at : Shape → Decoder Message
 version_at shape =

@@ -87,7 +87,8 @@ pub record EntryFits (shape : Shape) (e : LogEntry) : Type 0 where
 
 unfoldable pub entry_at : Shape → Decoder LogEntry
 entry_at shape =
-    made_at (λ p. record { tid = p.0; snapshot = p.1.0; touches = p.1.1.0; writes = p.1.1.1 }) (both_at (tid_at shape) (both_at (vector_at shape) (both_at (list_at 0 places touch_at) (writes_at shape))))
+    made_at (λ p. record { tid = p.0; snapshot = p.1.0; touches = p.1.1.0; writes = p.1.1.1 })
+    (both_at (tid_at shape) (both_at (vector_at shape) (both_at (list_at 0 places touch_at) (writes_at shape))))
 
 -- ---- pages: a code, and what it tells
 

@@ -234,7 +234,8 @@ at_most_one move t (u ∷ us) order =
 -- ---- what is there
 
 -- what an effect does is what its operation asks, at the counts of the updates that it is after
-pub record Follows {O E : Type 0} (move : E → Move) (adds removes : O → Bool) (after : Tag → Tag → Bool) (us : List (Stamped O E)) (u : Stamped O E) : Type 0 where
+pub record Follows {O E : Type 0} (move : E → Move) (adds removes : O → Bool)
+    (after : Tag → Tag → Bool) (us : List (Stamped O E)) (u : Stamped O E) : Type 0 where
   pub adding : puts (move u.effect) ≡ adds u.op
   pub taking : (t : Tag) → In t (tags_of (move u.effect))
       → (removes u.op ≡ true) × (is_positive (count_at (marks_after move empty (before after u us)) t) ≡ true)

@@ -66,7 +66,8 @@ moves x e = if bytes_eq x (element_of e) then move_of e else Still
 
 marks_of-updated : (s : Elements) (e : SetEffect) (m : Stamp) (x : List ℕ) → marks_of (set_updated s e m) x ≡ moved (marks_of s x) (moves x e) (tag_of m)
 marks_of-updated s e m x =
-    value_at-with_value nat_list_cmp_total one_by_bytes empty is_nothing is_nothing-is s (element_of e) (moved (marks_of s (element_of e)) (move_of e) (tag_of m)) x
+    value_at-with_value nat_list_cmp_total one_by_bytes empty is_nothing is_nothing-is s (element_of e)
+    (moved (marks_of s (element_of e)) (move_of e) (tag_of m)) x
     ∙ ap (λ b. cond b (moved (marks_of s (element_of e)) (move_of e) (tag_of m)) (marks_of s x)) (same_bytes x (element_of e))
     ∙ on (bytes_eq x (element_of e)) refl
   where
@@ -83,8 +84,8 @@ as_marks x s (u ∷ us) = as_marks x (set_updated s u.effect u.stamp) us ∙ ap 
 marks_of-initial : (x : List ℕ) → marks_of set_initial x ≡ empty
 marks_of-initial x = ap (λ r. unwrap_or r empty) (get-empty (slice_cmp nat_cmp) x)
 
-module _ (after : Tag → Tag → Bool) (us : List (Stamped SetOp SetEffect)) (x : List ℕ) (u : Stamped SetOp SetEffect) (s : Elements) (met : (y : List ℕ) → marks_of s y
-    ≡ marks_after (moves y) empty (before after u us)) where
+module _ (after : Tag → Tag → Bool) (us : List (Stamped SetOp SetEffect)) (x : List ℕ) (u : Stamped SetOp SetEffect)
+    (s : Elements) (met : (y : List ℕ) → marks_of s y ≡ marks_after (moves y) empty (before after u us)) where
   follows : (op : SetOp) → u.op ≡ op → set_prepared (tag_of u.stamp) op s ≡ Some u.effect → Follows (moves x) (adds x) (removes x) after us u
   follows SetMembers e made = absurd (cc)
   follows (SetContains y) e made = absurd (cc)

@@ -4,7 +4,8 @@ use Rattle.us_schedule.specs.declared.line.Line.{Line}
 use Rattle.us_schedule.specs.declared.line.Line.TheVariants as line
 use Rattle.us_model.specs.declared.event.Note.{Note}
 use Rattle.us_model.specs.declared.event.Note.TheVariants as note
-use Rattle.us_model.specs.Worlds.{World, WorldEvent, OpenSession, ClientBytes, CloseSession, DeliverPacket, Flushes, nth, least_undelivered, world_step, run, start}
+use Rattle.us_model.specs.Worlds.{World, Flushes, nth, least_undelivered, world_step, run, start}
+use Rattle.us_model.specs.Worlds.{WorldEvent, OpenSession, ClientBytes, CloseSession, DeliverPacket}
 use Rattle.us_model.specs.declared.settings.Settings.{Settings}
 use Rattle.us_peer_wire.specs.declared.message.Packet.{Packet}
 use Rattle.us_world.specs.declared.fault.WorldFault.{WorldFault}
