@@ -45,7 +45,7 @@ fn places_of(alloc: Global, pairs: &[(u8, Class, Class)]) -> Result<BTreeSet<Pla
     Ok(places)
 }
 
-/// The pair stands there in this order.
+/// Whether the pair stands there in this order.
 fn has(places: &BTreeSet<Place>, space: u8, a: Class, b: Class) -> bool
     ensures { result ≡ stands_in places.now.keys space a b }
 {
@@ -83,7 +83,7 @@ impl Conflicts {
         Ok(Conflicts { pairs, places })
     }
 
-    /// Operations of these classes on one item of the space conflict. The order of the classes makes no difference.
+    /// Whether operations of these classes on one item of the space conflict. The order of the classes makes no difference.
     pub fn declared(&self, space: u8, a: Class, b: Class) -> bool
         ensures declared { result ≡ declares self.now space a b }
         ensures symmetric { result ≡ declares self.now space b a }
@@ -91,14 +91,14 @@ impl Conflicts {
         has(&self.places, space, a, b) || has(&self.places, space, b, a)
     }
 
-    /// The two operations conflict.
+    /// Whether the two operations conflict.
     fn operations(&self, x: &(Item, Class), y: &(Item, Class)) -> bool
         ensures { result ≡ operations_conflict self.now x.now y.now }
     {
         x.0.same(&y.0) && self.declared(x.0.space, x.1, y.1)
     }
 
-    /// The operation conflicts with some of the others.
+    /// Whether the operation conflicts with some of the others.
     fn with_some(&self, x: &(Item, Class), others: &[(Item, Class)]) -> bool
         ensures { result ≡ conflicts_with_some self.now others.now x.now }
     {

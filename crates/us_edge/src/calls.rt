@@ -25,7 +25,7 @@ impl Calls {
         }
     }
 
-    /// Counts a call, and says whether it is to fail.
+    /// Whether the call is to fail, which is counted.
     pub fn begin(&mut self) -> bool
         ensures to_fail { result ≡ is_to_fail self.old.fails.items self.old.made }
         ensures fails { self.new.fails ≡ self.old.fails }

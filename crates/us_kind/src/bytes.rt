@@ -62,7 +62,7 @@ impl Bytes {
         self.items.len()
     }
 
-    /// The two are the same bytes.
+    /// Whether the two are the same bytes.
     pub fn same(&self, other: &Bytes) -> bool
         ensures { result ≡ bytes_eq self.now other.now }
     {

@@ -12,7 +12,7 @@ pub struct Tid {
 }
 
 impl Tid {
-    /// The two are the same transaction.
+    /// Whether the two are the same transaction.
     pub fn same(&self, other: &Tid) -> bool
         ensures { result ≡ tid_eq self.now other.now }
     {

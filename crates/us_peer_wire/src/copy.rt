@@ -3,7 +3,7 @@ ghost use Rattle.std.specs.Prelude.{◌≡◌, IfOk};
 
 use crate::{Form, LogEntry, Message, Outcome, OutcomeEnd, Packet, Page, Verdict, Version};
 use us_fields::copies_of;
-use us_kind::Memory;
+use us_kind::{Memory, Slot};
 use us_value::Effect;
 
 impl Packet {
@@ -175,6 +175,16 @@ impl LogEntry {
             touches: copies_of(&self.touches)?,
             writes: copies_of(&self.writes)?,
         })
+    }
+}
+
+impl Slot for LogEntry {
+    ghost use Rattle.us_peer_wire.specs.SameEntry.{same_entry};
+
+    ghost same = { same_entry };
+
+    fn copy(&self) -> Result<LogEntry, Memory> {
+        LogEntry::copy(self)
     }
 }
 

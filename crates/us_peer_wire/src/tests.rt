@@ -4,7 +4,7 @@ use std::process::Abort;
 use std::test::Fail;
 use us_base::{Shape, Vector};
 use us_fields::DecodeFault;
-use us_kind::{Bytes, Items, Memory, Tag, Tid};
+use us_kind::{Bytes, Items, Memory, Slot, Tag, Tid};
 use us_value::{Answer, Class, Effect, Item, Op, Write};
 
 /// One site and one partition: vectors have two entries.
@@ -98,6 +98,17 @@ fn entry(alloc: Global) -> Result<LogEntry, Memory> {
         touches: one(alloc, (item(alloc)?, Class::Remove))?,
         writes: writes(alloc)?,
     })
+}
+
+/// Whether an entry of a ballot log equals its copy.
+fn equals_its_copy<E: Slot>(entry: &E) -> Result<bool, Memory> {
+    Ok(*entry == entry.copy()?)
+}
+
+#[test]
+fn a_strong_transaction_is_an_entry_of_the_ballot_log(rt: HostRuntime) -> Result<(), Fail> {
+    assert!(rt; equals_its_copy(&entry(rt.alloc())?)?);
+    Ok(())
 }
 
 fn get(alloc: Global) -> Result<Message, Memory> {

@@ -56,14 +56,14 @@ impl Marks {
         }
     }
 
-    /// Nothing is kept.
+    /// Whether nothing is kept.
     pub fn is_empty(&self) -> bool
         ensures { result ≡ is_nothing self.now }
     {
         self.counts.is_empty()
     }
 
-    /// Some addition is there.
+    /// Whether some addition is there.
     pub fn is_live(&self) -> bool
         ensures { result ≡ is_live self.now }
     {

@@ -135,7 +135,7 @@ impl SetState {
         }
     }
 
-    /// Nothing is kept of a value.
+    /// Whether nothing is kept of a value.
     fn is_bare(&self, value: &Bytes) -> bool
         ensures { result ≡ is_nothing (marks_of self.now value.now) }
     {

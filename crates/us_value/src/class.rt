@@ -29,7 +29,7 @@ pub fn class_of(op: &Op) -> Class
     }
 }
 
-/// Some operation of the kind has the class.
+/// Whether some operation of the kind has the class.
 pub fn kind_has(kind: Kind, class: Class) -> bool
     ensures { result ≡ kind_has kind class }
 {
@@ -42,7 +42,7 @@ pub fn kind_has(kind: Kind, class: Class) -> bool
     }
 }
 
-/// The operation is one of the kind.
+/// Whether the operation is one of the kind.
 pub fn op_fits(kind: Kind, op: &Op) -> bool
     ensures { result ≡ op_fits kind op.now }
 {
@@ -57,7 +57,7 @@ pub fn op_fits(kind: Kind, op: &Op) -> bool
     }
 }
 
-/// The effect is one of the kind.
+/// Whether the effect is one of the kind.
 pub fn effect_fits(kind: Kind, effect: &Effect) -> bool
     ensures { result ≡ effect_fits kind effect.now }
 {

@@ -13,7 +13,7 @@ pub struct Item {
 }
 
 impl Item {
-    /// The two are the same item.
+    /// Whether the two are the same item.
     pub fn same(&self, other: &Item) -> bool
         ensures { result ≡ item_eq self.now other.now }
     {

@@ -49,7 +49,7 @@ pub enum Op {
 }
 
 impl Op {
-    /// The operation changes its item.
+    /// Whether the operation changes its item.
     pub fn is_update(&self) -> bool
         ensures { result ≡ is_update self.now }
     {
