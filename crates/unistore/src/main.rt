@@ -37,6 +37,4 @@ fn main(rt: HostRuntime) -> ExitCode {
 }
 
 #[cfg(test)]
-mod rows;
-#[cfg(test)]
 mod tests;
