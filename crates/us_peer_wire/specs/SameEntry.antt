@@ -2,7 +2,8 @@
 use Rattle.std.proofs.Common.{rules}
 use Rattle.std.proofs.lemmas.Grind.{common_steps}
 use Rattle.std.specs.Prelude.{◌≡◌, ℕ, List, [], ◌∷◌, Bool, true, false, ◌&&◌, ◌==◌}
-use Rattle.std.proofs.Common.{refl, sym, true≢false}
+use Rattle.std.proofs.Common.{refl, sym, true≢false, arith}
+use Rattle.std.proofs.lemmas.Bool.Decides.{nat_tests}
 use Rattle.std.specs.Cmp.Lexicographic.{pointwise, bytes_decides}
 use Rattle.us_kind.specs.declared.identity.Tid.{Tid}
 use Rattle.us_kind.specs.declared.identity.Tag.{Tag}
@@ -71,8 +72,36 @@ same_effect (effect.MultiWrite v ss) (effect.MultiWrite w ts) e =
     λ i. effect.MultiWrite (value i) (tags i)
 same_effect x y e = absurd (true≢false (sym e))
 
+same_number : (m n : ℕ) → (m == n) ≡ true → m ≡ n
+same_number m n e = grind (arith, nat_tests)
+
 same_write : IsOfOne write.eq
-same_write x y e = Prim.search (rules, common_steps)
+same_write x y e =
+    let rest = second (item_eq x.item y.item) ((x.place == y.place) && effects.eq x.effect y.effect) e in
+    let item = same_item x.item y.item (first (item_eq x.item y.item) ((x.place == y.place) && effects.eq x.effect y.effect) e) in
+    let place = same_number x.place y.place (first (x.place == y.place) (effects.eq x.effect y.effect) rest) in
+    let effect = same_effect x.effect y.effect (second (x.place == y.place) (effects.eq x.effect y.effect) rest) in
+    λ i. record { item = item i; place = place i; effect = effect i }
+
+-- an item and the class of an operation on it
+abbrev touch_eq : Item × Class → Item × Class → Bool
+touch_eq x y = item_eq x.0 y.0 && class.eq x.1 y.1
+
+same_touch : IsOfOne touch_eq
+same_touch x y e =
+    let item = same_item x.0 y.0 (first (item_eq x.0 y.0) (class.eq x.1 y.1) e) in
+    let kind = same_class x.1 y.1 (second (item_eq x.0 y.0) (class.eq x.1 y.1) e) in
+    λ i. (item i, kind i)
 
 pub same_entry : IsOfOne entry.eq
-same_entry x y e = Prim.search (rules, common_steps)
+same_entry x y e =
+    let writes = pointwise write.eq x.writes y.writes in
+    let touches = pointwise touch_eq x.touches y.touches in
+    let snapshot = pointwise ◌==◌ x.snapshot y.snapshot in
+    let after_tid = second (tid.eq x.tid y.tid) (snapshot && (touches && writes)) e in
+    let after_snapshot = second snapshot (touches && writes) after_tid in
+    let one_tid = same_tid x.tid y.tid (first (tid.eq x.tid y.tid) (snapshot && (touches && writes)) e) in
+    let one_snapshot = same_numbers x.snapshot y.snapshot (first snapshot (touches && writes) after_tid) in
+    let one_touches = same_list same_touch x.touches y.touches (first touches writes after_snapshot) in
+    let one_writes = same_list same_write x.writes y.writes (second touches writes after_snapshot) in
+    λ i. record { tid = one_tid i; snapshot = one_snapshot i; touches = one_touches i; writes = one_writes i }

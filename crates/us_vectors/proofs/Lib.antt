@@ -1,0 +1,4 @@
+pub mod Loops
+pub mod Sums
+pub mod Entries
+pub mod Groups

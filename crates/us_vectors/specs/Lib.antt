@@ -1,0 +1,4 @@
+pub mod Tables
+pub mod Groups
+pub mod Counts
+pub mod Matrices
