@@ -1,0 +1,2 @@
+pub mod LogPlaces
+pub mod Sorting
