@@ -6,7 +6,7 @@ ghost use Rattle.us_model.specs.Coordinators.{new_coordinator, each_acts, new_se
 ghost use Rattle.us_coord.specs.Steps.{acts};
 
 use crate::codec::encoded;
-use crate::session::{checked_successor, new_stream, waits_for_nothing};
+use crate::session::{new_stream, waits_for_nothing};
 use crate::turn::{Turn, each};
 use crate::waits::put_waits_in;
 use std::alloc::Global;
@@ -14,7 +14,7 @@ use std::marker::Model;
 use us_base::{Shape, Vector};
 use us_client_wire::Reply;
 use us_exec::WaitingRequest;
-use us_kind::{Items, Memory, Tid};
+use us_kind::{Items, Memory, Tid, checked_sum};
 use us_model::{Await, ClientOut, Context, Note, Outputs, Refusal, Session, View, Vote};
 use us_peer_wire::{Actor, Version};
 use us_value::Catalog;
@@ -52,7 +52,7 @@ impl Coordinator {
         ensures coordinator { OnOk result (self.new ≡ (opened coord self.old out).coordinator) }
         ensures out { IfOk result (λ given. given ≡ (opened coord self.old out).out) }
     {
-        let number = checked_successor(self.opens)?;
+        let number = checked_sum(self.opens, 1)?;
         out.notes.push(Note::Opened {
             coord,
             session: number,

@@ -12,5 +12,4 @@ mod turn;
 mod waits;
 
 pub use coordinator::{Coordinator, refuse_open};
-pub use session::checked_successor;
 pub use us_model::{ClientOut, Note, Outputs, View};

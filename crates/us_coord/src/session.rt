@@ -14,7 +14,7 @@ use std::alloc::Global;
 use us_base::{Limits, Vector};
 use us_client_wire::{Reply, Request};
 use us_exec::SessionName;
-use us_kind::{Items, Memory, Tid};
+use us_kind::{Items, Memory, Tid, checked_sum};
 use us_model::{Await, ClientOut, Context, Note, Refusal, Session, Transaction};
 use us_peer_wire::{Actor, Message, Packet};
 use us_value::{Catalog, Effect, Item, Op, Write, op_fits};
@@ -25,16 +25,6 @@ const OPERATIONS: usize = Limits::OPERATIONS;
 
 /// The greatest whole frame of a client, in bytes.
 const CLIENT_FRAME: u32 = Limits::CLIENT_FRAME;
-
-/// The number after it. One that doesn't fit its type counts as out of memory.
-pub fn checked_successor(n: u64) -> Result<u64, Memory>
-    ensures { IfOk result (λ next. next ≡ n + 1) }
-{
-    match n.checked_add(1) {
-        Some(next) => Ok(next),
-        None => Err(Memory),
-    }
-}
 
 /// A stream of which nothing has come.
 pub fn new_stream(alloc: Global) -> FrameReader
@@ -136,7 +126,7 @@ fn begin(alloc: Global, context: &mut Context, session: &mut Session, at: u64) -
     if session.running.is_some() {
         return refuse(alloc, context, session, at, Refusal::InTransaction);
     }
-    let seq = checked_successor(context.seq)?;
+    let seq = checked_sum(context.seq, 1)?;
     let tid = Tid {
         site: context.me.site,
         coord: context.me.actor,
@@ -301,7 +291,7 @@ pub fn end(
     ensures session { OnOk result (session.new ≡ record session.old
         { past = join session.old.past vector; count = session.old.count + 1; running = None; waits = Await.Nothing }) }
 {
-    let count = checked_successor(session.count)?;
+    let count = checked_sum(session.count, 1)?;
     tell_client(alloc, context, session, &Reply::Committed { at, count })?;
     context.out.notes.push(Note::Decided { tid, vector })?;
     session.past = session.past.join(&vector);

@@ -6,11 +6,11 @@ ghost use Rattle.us_model.specs.Sessions.{closes_in, close, malformed, is_built,
 
 use crate::codec::read_request;
 use crate::running::run;
-use crate::session::{checked_successor, new_stream, refuse, waits_for_nothing};
+use crate::session::{new_stream, refuse, waits_for_nothing};
 use std::alloc::Global;
 use us_base::Limits;
 use us_client_wire::{DecodeFault, Request};
-use us_kind::{Bytes, Items, Memory};
+use us_kind::{Bytes, Items, Memory, checked_sum};
 use us_model::{Await, Context, Note, QueuedRequest, Refusal, Session};
 use us_value::Catalog;
 use us_wire::{FrameReader, Next};
@@ -147,7 +147,7 @@ fn take_frame(
     ensures context { OnOk result (context.new ≡ (framed catalog.now context.old session.old frame.now).context) }
     ensures session { OnOk result (session.new ≡ (framed catalog.now context.old session.old frame.now).session) }
 {
-    session.asked = checked_successor(session.asked)?;
+    session.asked = checked_sum(session.asked, 1)?;
     match read_request(alloc, frame, context.shape) {
         Ok(request) => take_request(alloc, catalog, context, session, request),
         Err(DecodeFault::Malformed) => refuse_malformed(alloc, context, session),
@@ -199,7 +199,7 @@ fn take_all(
         }
     }
     if bad {
-        session.asked = checked_successor(session.asked)?;
+        session.asked = checked_sum(session.asked, 1)?;
         refuse_malformed(alloc, context, session)?;
     }
     Ok(())

@@ -8,9 +8,8 @@ use crate::shard::Shard;
 use std::alloc::Global;
 use std::marker::Model;
 use us_base::Limits;
-use us_coord::checked_successor;
 use us_exec::WaitingRequest;
-use us_kind::{Items, Memory};
+use us_kind::{Items, Memory, checked_sum};
 use us_model::{Event, Outputs, Settings};
 use us_peer_wire::Actor;
 
@@ -99,7 +98,7 @@ impl Site {
         ensures stopped { self.new.stopped ≡ is_err result }
     {
         self.stopped = true;
-        let taken = checked_successor(self.taken)?;
+        let taken = checked_sum(self.taken, 1)?;
         let out = step_shards(
             alloc,
             self.number,

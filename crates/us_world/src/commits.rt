@@ -7,14 +7,13 @@ ghost use Rattle.us_world.specs.PastSearch.{steps_to};
 ghost use Rattle.us_world.specs.PastSearch.{group_of, is_in_group, greatest, greatest_found, found_at, passes, number_of, is_earlier, is_earlier_of, is_shown, is_shown_of, IsSearchable, PassFirst};
 
 use crate::beginnings::Beginning;
-use crate::numbers::checked_sum;
 use crate::past::{has_own_vector, same_session};
 use std::alloc::Global;
 use std::marker::Model;
 use us_base::Vector;
 use us_exec::{Done, SessionName};
 use us_index::Places;
-use us_kind::{Items, Memory};
+use us_kind::{Items, Memory, checked_sum};
 
 /// A transaction committed, the `number`-th of its session, from 1.
 #[derive(Drop)]

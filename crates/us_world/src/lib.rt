@@ -7,7 +7,6 @@ mod commits;
 mod execution;
 mod fault;
 mod history;
-mod numbers;
 mod order;
 mod past;
 mod performances;

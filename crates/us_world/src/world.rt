@@ -8,13 +8,12 @@ ghost use Rattle.us_world.specs.WorldState.{AllMarked, Represents, unmarked, sit
 ghost use Rattle.us_world.specs.Limits.{Delivers, is_opening, is_beginning, opened_in, begun_in};
 ghost use Rattle.us_world.specs.Lines.{IsBuilt, AdvancesBy, StoppedBy, IsDelivery, IsPerformed, IsStopped, report_of_kept};
 
-use crate::numbers::checked_sum;
 use crate::{History, WorldFault};
 use std::alloc::Global;
 use std::marker::Model;
 use us_base::Limits;
 use us_exec::WaitingRequest;
-use us_kind::{Bytes, Items, Memory};
+use us_kind::{Bytes, Items, Memory, checked_sum};
 use us_model::Settings;
 use us_peer_wire::Packet;
 use us_report::Report;

@@ -1,0 +1,3 @@
+pub mod AscendingCheck
+pub mod Decisions
+pub mod PastSearch
