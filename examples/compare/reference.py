@@ -1,7 +1,7 @@
 #!/usr/bin/env python3
 """A plain implementation of `unistore replay` for one site with one partition and all kinds of items.
 
-    python3 examples/compare/reference.py replay < examples/cart/schedule
+    python3 examples/compare/reference.py replay < crates/unistore/stdin
 
 It is written from docs/PROTOCOL.md, sharing no code with the store, and keeps everything in plain lists. `run(words, text)` gives
 what is written, the exit status, and counts of what was met on the way. Of runs of at most 150 transactions it also tests that
