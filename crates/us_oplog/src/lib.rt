@@ -8,3 +8,6 @@ mod reading;
 pub use log::OpLog;
 pub use reading::apply_effect;
 pub use us_history::LogTx;
+
+#[cfg(test)]
+mod tests;
