@@ -1,0 +1,6 @@
+ghost use Rattle.us_load.specs.Grammar.{LoadsAreSchedules};
+
+/// The text of each load is in the schedule's grammar: behind the configuration, each line is one that it allows.
+pub fn loads_are_schedules()
+    ensures { LoadsAreSchedules }
+{}
