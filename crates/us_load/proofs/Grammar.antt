@@ -1,5 +1,5 @@
 -- A load is a schedule.
-use Rattle.std.proofs.Common.{◌≡◌, ℕ, ◌≤◌, List, [], ◌∷◌, ◌++◌, map, Some, refl, ap, ◌∙◌, arith}
+use Rattle.std.proofs.Common.{◌≡◌, ℕ, ◌≤◌, List, [], ◌∷◌, ◌++◌, map, Some, refl, sym, ap, ◌∙◌, subst, arith}
 use Rattle.std.specs.List.{AllByRecursion, concat, flat_map}
 use Rattle.us_base.specs.Shape.{IsShape}
 use Rattle.us_schedule.specs.declared.line.Line.{Line}
@@ -9,7 +9,7 @@ use Rattle.us_schedule.proofs.Parting.{concat_raw}
 use Rattle.us_schedule.proofs.Again.{written_is_read}
 use Rattle.us_load.specs.Transactions.{loaded}
 use Rattle.us_load.specs.Load.{configuration, front, line_text, load_lines}
-use Rattle.us_load.specs.Grammar.{LoadsAreSchedules}
+use Rattle.us_load.specs.Grammar.{IsScheduleOf, LoadsAreSchedules}
 use Rattle.us_load.proofs.Printed.{IsPrinted, lines_again}
 use Rattle.us_load.proofs.Allowed.{IsFine, AreFine, load_fine}
 
@@ -46,3 +46,9 @@ loads_are_schedules number count le =
       read = ap (map (line_read loaded)) (lines_again lines (are_printed lines fine)) ∙ are_read lines fine;
       allowed = are_allowed lines fine;
     }
+
+-- the same of a text that is a load's
+pub load_is_schedule : (number count : ℕ) (lines : List Line) (text : List ℕ) → count ≤ 5000 → lines ≡ load_lines number count → text ≡ front ++ flat_map line_text lines → IsScheduleOf loaded configuration (load_lines number count) text
+load_is_schedule number count lines text le all is =
+    let P : List ℕ → Type 0 = λ text. IsScheduleOf loaded configuration (load_lines number count) text in
+    subst P (sym (is ∙ ap (λ (lines : List Line). front ++ flat_map line_text lines) all)) (loads_are_schedules number count le)

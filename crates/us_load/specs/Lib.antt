@@ -3,3 +3,4 @@ pub mod Operations
 pub mod Transactions
 pub mod Load
 pub mod Grammar
+pub mod Rows

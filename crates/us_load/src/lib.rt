@@ -7,5 +7,8 @@ mod operation;
 mod session;
 mod transaction;
 
-pub use laws::loads_are_schedules;
+pub use laws::{loads_are_schedules, worked_loads};
 pub use load::schedule_of;
+
+#[cfg(test)]
+mod tests;

@@ -1,8 +1,9 @@
 ghost use Rattle.std.specs.Prelude.{◌≡◌, ◌≤◌, ◌<◌, ◌++◌, IfOk, OnOk};
 ghost use Rattle.std.specs.List.{flat_map};
 ghost use Rattle.us_load.specs.Words.{stream};
-ghost use Rattle.us_load.specs.Transactions.{transactions};
-ghost use Rattle.us_load.specs.Load.{opens, load_lines, line_text, front, load_text};
+ghost use Rattle.us_load.specs.Transactions.{loaded, transactions};
+ghost use Rattle.us_load.specs.Load.{opens, load_lines, line_text, configuration, front, load_text};
+ghost use Rattle.us_load.specs.Grammar.{IsScheduleOf};
 
 use crate::session::{SESSIONS, coord_of, site_of};
 use crate::transaction::{CLOCK, put_transaction};
@@ -46,7 +47,8 @@ const LAST_ROUNDS: u64 = 40;
 /// `Memory`.
 pub fn schedule_of(alloc: Global, number: u64, count: u64) -> Result<Vec<u8>, Memory>
     requires { count ≤ Limits.LOAD }
-    ensures { IfOk result (λ text. text.items ≡ load_text number count) }
+    ensures text { IfOk result (λ text. text.items ≡ load_text number count) }
+    ensures schedule { IfOk result (λ text. IsScheduleOf loaded configuration (load_lines number count) text.items) }
 {
     let lines = lines_of(alloc, number, count)?;
     text_of(alloc, lines.as_slice())
