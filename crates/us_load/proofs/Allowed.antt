@@ -1,16 +1,16 @@
 -- The lines of a load are those of a schedule.
-use Rattle.std.proofs.Common.{◌≡◌, ℕ, zero, suc, ◌+◌, ◌-◌, ◌*◌, ◌/◌, ◌%◌, ◌^◌, ◌<◌, ◌≤◌, Bool, true, false, cond, leb, ltb, List, [], ◌∷◌, ◌++◌, map, length, lit<, refl, sym, ap, ◌∙◌, subst, arith}
-use Rattle.std.specs.Prelude.{◌==◌, ◌&&◌, codes}
-use Rattle.std.specs.List.{AllByRecursion, range_with_len, join_with_byte}
-use Rattle.std.proofs.lemmas.Bool.{and_from, le-leb, lt-ltb}
+use Rattle.std.proofs.Common.{◌≡◌, ℕ, zero, suc, ◌+◌, ◌*◌, ◌%◌, ◌^◌, ◌<◌, ◌≤◌, Bool, true, false, cond, leb, List, [], ◌∷◌, ◌++◌, map, length, lit<}
+use Rattle.std.proofs.Common.{refl, arith}
+use Rattle.std.specs.Prelude.{◌==◌, codes}
+use Rattle.std.specs.List.{AllByRecursion, range_with_len}
+use Rattle.std.proofs.lemmas.Bool.{and_from, le-leb}
 use Rattle.hex.specs.Hex.{IsBytes}
 use Rattle.rand_core.specs.Stream.{Stream}
-use Rattle.us_base.specs.Shape.{IsShape}
 use Rattle.us_schedule.specs.declared.line.Line.{Line}
-use Rattle.us_schedule.specs.declared.line.Line.TheVariants.{Open, Bytes, Flush, Settle}
+use Rattle.us_schedule.specs.declared.line.Line.TheVariants.{Bytes, Flush, Settle}
 use Rattle.us_schedule.specs.Lines.{IsAllowed, encoding_of, is_site, is_coord}
 use Rattle.us_load.specs.Words.{word, seeded}
-use Rattle.us_load.specs.Transactions.{loaded, sessions, site_of, coord_of, session_of, session_lines, settled, transaction, transactions, frames, requests_of, behind_transaction}
+use Rattle.us_load.specs.Transactions.{loaded, site_of, coord_of, session_of, transaction, transactions, frames, requests_of, behind_transaction}
 use Rattle.us_load.specs.Load.{open_line, opens, load_lines}
 use Rattle.us_load.proofs.Frames.{all_append, bytes_at, AreFew, transaction_few, transaction_some}
 use Rattle.us_load.proofs.Printed.{IsPrinted, decimal_printed, hex_printed, joined_printed}
@@ -38,10 +38,12 @@ open_fine : (session : ℕ) → session < 12 → IsFine (open_line session)
 open_fine session lt =
     let site : site_of session ≤ 3 = omega arith in
     let coord : coord_of session ≤ 4 = omega arith in
+    let at_site = site_fits (site_of session) (omega arith) site in
+    let at_coord = coord_fits (coord_of session) (omega arith) coord in
     let s = decimal_printed (site_of session) (omega arith) in
     let c = decimal_printed (coord_of session) (omega arith) in
     record {
-      allowed = record { ranges = and_from _ _ (site_fits (site_of session) (omega arith) site) (coord_fits (coord_of session) (omega arith) coord); bytes = no_byte };
+      allowed = record { ranges = and_from _ _ at_site at_coord; bytes = no_byte };
       printed = joined_printed (codes "open" ∷ _ ∷ _ ∷ []) ((lit< tt, (lit< tt, (lit< tt, (lit< tt, tt)))), (s, (c, tt)));
     }
 
@@ -49,6 +51,8 @@ bytes_fine : (session : ℕ) (bytes : List ℕ) → session < 12 → 1 ≤ lengt
 bytes_fine session bytes lt some few =
     let site : site_of session ≤ 3 = omega arith in
     let coord : coord_of session ≤ 4 = omega arith in
+    let at_site = site_fits (site_of session) (omega arith) site in
+    let at_coord = coord_fits (coord_of session) (omega arith) coord in
     let s = decimal_printed (site_of session) (omega arith) in
     let c = decimal_printed (coord_of session) (omega arith) in
     let n = decimal_printed 1 (lit< tt) in
@@ -56,8 +60,9 @@ bytes_fine session bytes lt some few =
     let short = few.few in
     let piece = and_from (leb 1 (length bytes)) (leb (length bytes) 65536) (le-leb _ _ some) (le-leb _ _ (omega arith)) in
     record {
-      allowed = record { ranges = and_from _ _ (site_fits (site_of session) (omega arith) site) (and_from _ _ (coord_fits (coord_of session) (omega arith) coord) (and_from _ _ refl piece)); bytes = are };
-      printed = joined_printed (codes "bytes" ∷ _ ∷ _ ∷ _ ∷ _ ∷ []) ((lit< tt, (lit< tt, (lit< tt, (lit< tt, (lit< tt, tt))))), (s, (c, (n, (hex_printed bytes are, tt)))));
+      allowed = record { ranges = and_from _ _ at_site (and_from _ _ at_coord (and_from _ _ refl piece)); bytes = are };
+      printed = joined_printed (codes "bytes" ∷ _ ∷ _ ∷ _ ∷ _ ∷ [])
+          ((lit< tt, (lit< tt, (lit< tt, (lit< tt, (lit< tt, tt))))), (s, (c, (n, (hex_printed bytes are, tt)))));
     }
 
 flush_fine : (site : ℕ) → 1 ≤ site → site ≤ 3 → IsFine (Flush site site)
@@ -100,7 +105,8 @@ transaction_fine i s le =
 transactions_fine : (left i : ℕ) (s : Stream) → left + i ≤ 5001 → AreFine (transactions left i s)
 transactions_fine zero i s le = tt
 transactions_fine (suc left) i s le =
-    all_append IsFine (transaction i s) (transactions left (i + 1) (behind_transaction s)) (transaction_fine i s (omega arith)) (transactions_fine left (i + 1) (behind_transaction s) (omega arith))
+    all_append IsFine (transaction i s) (transactions left (i + 1) (behind_transaction s))
+    (transaction_fine i s (omega arith)) (transactions_fine left (i + 1) (behind_transaction s) (omega arith))
 
 pub load_fine : (number count : ℕ) → count ≤ 5000 → AreFine (load_lines number count)
 load_fine number count le =

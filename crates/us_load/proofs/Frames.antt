@@ -1,8 +1,9 @@
 -- The frames of a transaction are bytes, and few.
-use Rattle.std.proofs.Common.{◌≡◌, ℕ, zero, suc, ◌+◌, ◌-◌, ◌*◌, ◌/◌, ◌%◌, ◌^◌, ◌<◌, ◌≤◌, Bool, true, false, cond, List, [], ◌∷◌, ◌++◌, length, get_or, slice_index, length-append, lit<, refl, sym, ap, ◌∙◌, subst, arith}
+use Rattle.std.proofs.Common.{ℕ, zero, suc, ◌+◌, ◌*◌, ◌/◌, ◌%◌, ◌^◌, ◌<◌, ◌≤◌, Bool, true, false, cond, List, [], ◌∷◌, ◌++◌, length, get_or}
+use Rattle.std.proofs.Common.{length-append, lit<, sym, subst, arith}
 use Rattle.std.specs.Prelude.{ℤ, ◌==◌}
 use Rattle.std.specs.Int.{bytes_high_first, byte_at, to_be_bytes, cast_unsigned, w16, w32, w64}
-use Rattle.std.specs.List.{AllByRecursion, flat_map}
+use Rattle.std.specs.List.{AllByRecursion}
 use Rattle.std.proofs.lemmas.List.Concat.{flat_map-append}
 use Rattle.hex.specs.Hex.{IsBytes}
 use Rattle.rand_core.specs.Stream.{Stream}
@@ -11,7 +12,6 @@ use Rattle.us_value.specs.declared.operation.Kind.TheVariants.{Register, Counter
 use Rattle.us_value.specs.declared.operation.Op.{Op}
 use Rattle.us_value.specs.declared.operation.Op.TheVariants.{RegisterRead}
 use Rattle.us_fields.specs.Fields.{op_encoding}
-use Rattle.us_client_wire.specs.declared.frame.Request.{Request}
 use Rattle.us_client_wire.specs.declared.frame.Request.TheVariants.{Begin, CommitCausal, CommitStrong}
 use Rattle.us_client_wire.specs.Requests.{request_encoding}
 use Rattle.us_load.specs.Words.{word, behind}
@@ -115,24 +115,26 @@ perform_few w =
     let space : 1 + w % 5 < 256 = omega arith in
     let id : 97 + w / 5 % 8 < 256 = omega arith in
     let fields = (1 + w % 5) ∷ 1 ∷ (97 + w / 5 % 8) ∷ op_encoding (op_of w) in
+    let length_field = to_be_bytes w32 (length fields + 2) in
+    let rest : AreBytes (1 ∷ 2 ∷ fields) = (lit< tt, (lit< tt, (space, (lit< tt, (id, op.each))))) in
     record {
       few = omega (arith, op.few);
-      each = all_append (λ b. b < 256) (to_be_bytes w32 (length fields + 2)) (1 ∷ 2 ∷ fields) (high_first-bytes 4 (length fields + 2)) (lit< tt, (lit< tt, (space, (lit< tt, (id, op.each)))));
+      each = all_append (λ b. b < 256) length_field (1 ∷ 2 ∷ fields) (high_first-bytes 4 (length fields + 2)) rest;
     }
 
 performs_few : (n : ℕ) (s : Stream) → AreFew (18 * n) (frames (performs n s))
 performs_few zero s = record { few = omega arith; each = tt }
 performs_few (suc n) s =
-    few_append 18 (18 * n) (18 * suc n) (request_encoding loaded (perform_of (word s))) (frames (performs n (behind s))) (omega arith) (perform_few (word s)) (performs_few n (behind s))
-
-one_frame : (request : Request) → frames (request ∷ []) ≡ request_encoding loaded request ++ []
-one_frame request = refl
+    few_append 18 (18 * n) (18 * suc n) (request_encoding loaded (perform_of (word s))) (frames (performs n (behind s)))
+    (omega arith) (perform_few (word s)) (performs_few n (behind s))
 
 requests_few : (i n : ℕ) (s : Stream) → n ≤ 4 → AreFew 84 (frames (requests i n s))
 requests_few i n s le =
-    let commit : AreFew 6 (frames (commit_of i ∷ [])) = few_append 6 0 6 (request_encoding loaded (commit_of i)) [] (omega arith) (commit_few (i % 8 == 0)) (record { few = omega arith; each = tt }) in
-    let rest : AreFew 78 (frames (performs n s) ++ frames (commit_of i ∷ [])) = few_append (18 * n) 6 78 (frames (performs n s)) (frames (commit_of i ∷ [])) (omega arith) (performs_few n s) commit in
-    let whole = few_append 6 78 84 (request_encoding loaded Begin) (frames (performs n s) ++ frames (commit_of i ∷ [])) (omega arith) begin_few rest in
+    let none : AreFew 0 [] = record { few = omega arith; each = tt } in
+    let last = frames (commit_of i ∷ []) in
+    let commit : AreFew 6 last = few_append 6 0 6 (request_encoding loaded (commit_of i)) [] (omega arith) (commit_few (i % 8 == 0)) none in
+    let rest : AreFew 78 (frames (performs n s) ++ last) = few_append (18 * n) 6 78 (frames (performs n s)) last (omega arith) (performs_few n s) commit in
+    let whole = few_append 6 78 84 (request_encoding loaded Begin) (frames (performs n s) ++ last) (omega arith) begin_few rest in
     let P : List ℕ → Type 0 = λ bytes. AreFew 84 (request_encoding loaded Begin ++ bytes) in
     subst P (sym (flat_map-append (request_encoding loaded) (performs n s) (commit_of i ∷ []))) whole
 

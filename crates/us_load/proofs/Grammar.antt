@@ -4,14 +4,14 @@ use Rattle.std.specs.List.{AllByRecursion, concat, flat_map}
 use Rattle.us_base.specs.Shape.{IsShape}
 use Rattle.us_schedule.specs.declared.line.Line.{Line}
 use Rattle.us_schedule.specs.Lines.{IsAllowed, encoding_of, line_read, Parsed}
-use Rattle.us_schedule.specs.Text.{raw_lines, text_lines, parted_text}
+use Rattle.us_schedule.specs.Text.{raw_lines, parted_text}
 use Rattle.us_schedule.proofs.Parting.{concat_raw}
 use Rattle.us_schedule.proofs.Again.{written_is_read}
 use Rattle.us_load.specs.Transactions.{loaded}
 use Rattle.us_load.specs.Load.{configuration, front, line_text, load_lines}
 use Rattle.us_load.specs.Grammar.{IsScheduleOf, LoadsAreSchedules}
 use Rattle.us_load.proofs.Printed.{IsPrinted, lines_again}
-use Rattle.us_load.proofs.Allowed.{IsFine, AreFine, load_fine}
+use Rattle.us_load.proofs.Allowed.{AreFine, load_fine}
 
 shape : IsShape loaded
 shape = record { few_sites = omega arith; some_partition = omega arith; few_partitions = omega arith }
@@ -48,7 +48,8 @@ loads_are_schedules number count le =
     }
 
 -- the same of a text that is a load's
-pub load_is_schedule : (number count : ℕ) (lines : List Line) (text : List ℕ) → count ≤ 5000 → lines ≡ load_lines number count → text ≡ front ++ flat_map line_text lines → IsScheduleOf loaded configuration (load_lines number count) text
+pub load_is_schedule : (number count : ℕ) (lines : List Line) (text : List ℕ) → count ≤ 5000 → lines ≡ load_lines number count
+    → text ≡ front ++ flat_map line_text lines → IsScheduleOf loaded configuration (load_lines number count) text
 load_is_schedule number count lines text le all is =
     let P : List ℕ → Type 0 = λ text. IsScheduleOf loaded configuration (load_lines number count) text in
     subst P (sym (is ∙ ap (λ (lines : List Line). front ++ flat_map line_text lines) all)) (loads_are_schedules number count le)

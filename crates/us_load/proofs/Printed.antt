@@ -1,12 +1,13 @@
 -- No line holds what ends one.
-use Rattle.std.proofs.Common.{◌≡◌, ℕ, suc, ◌+◌, ◌-◌, ◌/◌, ◌%◌, ◌^◌, ◌<◌, ◌≤◌, Bool, true, false, cond, eqb, ltb, List, [], ◌∷◌, ◌++◌, map, length, get_or, slice_index, take, append_assoc, length-append, lit<, refl, sym, ap, ◌∙◌, subst, arith}
+use Rattle.std.proofs.Common.{◌≡◌, ℕ, suc, ◌-◌, ◌/◌, ◌%◌, ◌^◌, ◌<◌, true, ltb, List, [], ◌∷◌, ◌++◌, map, length, get_or, slice_index, append_assoc}
+use Rattle.std.proofs.Common.{length-append, lit<, refl, ap, ◌∙◌, arith}
 use Rattle.std.specs.List.{AllByRecursion, join_with_byte, flat_map}
 use Rattle.std.specs.Fmt.{decimal}
 use Rattle.std.specs.Str.Parse.{AllDigits}
 use Rattle.std.specs.Str.Lines.{strip_carriage_return}
 use Rattle.std.proofs.lemmas.Bool.{ltb-true, ne_eqb, agree_below_at}
 use Rattle.std.proofs.lemmas.Fmt.{digits_decimal}
-use Rattle.std.proofs.lemmas.List.{take_at, get_or-append_right}
+use Rattle.std.proofs.lemmas.List.{take_at}
 use Rattle.std.proofs.lemmas.Str.Parse.{digit_from_value}
 use Rattle.hex.specs.Hex.{IsBytes, encode_with, encode_lower, lower_digits}
 use Rattle.us_schedule.specs.declared.line.Line.{Line}
@@ -66,10 +67,11 @@ end_taken line f =
     let len : length (line ++ 10 ∷ []) - 1 ≡ length line = omega (arith, length-append line (10 ∷ [])) in
     rw (len, last_at line, take_at line (10 ∷ []) (length line) refl) (no_return line f)
 
-pub lines_again : (lines : List Line) → AllByRecursion (λ line. IsPrinted (encoding_of line)) lines → text_lines (flat_map line_text lines) ≡ map encoding_of lines
+pub lines_again : (lines : List Line) → AllByRecursion (λ line. IsPrinted (encoding_of line)) lines
+    → text_lines (flat_map line_text lines) ≡ map encoding_of lines
 lines_again [] f = refl
 lines_again (line ∷ lines) f =
     let text = encoding_of line in
     let cut : raw_lines (line_text line ++ flat_map line_text lines) ≡ ended text ∷ raw_lines (flat_map line_text lines) =
-      ap raw_lines (append_assoc text (10 ∷ []) (flat_map line_text lines)) ∙ raw_ended text (flat_map line_text lines) f.0 in
+    ap raw_lines (append_assoc text (10 ∷ []) (flat_map line_text lines)) ∙ raw_ended text (flat_map line_text lines) f.0 in
     ap (map without_end) cut ∙ (λ i. end_taken text f.0 i ∷ lines_again lines f.1 i)

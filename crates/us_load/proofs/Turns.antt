@@ -32,13 +32,14 @@ next_performed n w s t bytes more h e put =
     ∙ (λ i. bytes ++ (request_encoding loaded (perform_of (first i)) ++ frames (performs (n - 1) (behind s))))
     ∙ ap (λ (frames : List ℕ). bytes ++ frames) (sym turn)
 
-transactions_turn : (left more i j : ℕ) (s : Stream) → left ≡ more + 1 → j ≡ i + 1 → transactions left i s ≡ transaction i s ++ transactions more j (behind_transaction s)
+transactions_turn : (left more i j : ℕ) (s : Stream) → left ≡ more + 1 → j ≡ i + 1
+    → transactions left i s ≡ transaction i s ++ transactions more j (behind_transaction s)
 transactions_turn zero more i j s e f = absurd (omega arith)
 transactions_turn (suc n) more i j s e f = let k : n ≡ more = omega arith in rw (k, f) refl
 
 -- the next transaction, and those behind it
-pub next_transaction : (left more i j : ℕ) (s t : Stream) (lines put : List Line) → left ≡ more + 1 → j ≡ i + 1 → t ≡ behind_transaction s → put ≡ lines ++ transaction i s
-    → put ++ transactions more j t ≡ lines ++ transactions left i s
+pub next_transaction : (left more i j : ℕ) (s t : Stream) (lines put : List Line) → left ≡ more + 1 → j ≡ i + 1 → t ≡ behind_transaction s
+    → put ≡ lines ++ transaction i s → put ++ transactions more j t ≡ lines ++ transactions left i s
 next_transaction left more i j s t lines put e f words is =
     (λ k. is k ++ transactions more j (words k))
     ∙ append_assoc lines (transaction i s) (transactions more j (behind_transaction s))

@@ -4,7 +4,8 @@ use Rattle.us_value.specs.declared.item.Item.{Item}
 use Rattle.us_value.specs.declared.operation.Kind.{Kind}
 use Rattle.us_value.specs.declared.operation.Kind.TheVariants.{Register, Counter, Set, Flag, Multi}
 use Rattle.us_value.specs.declared.operation.Op.{Op}
-use Rattle.us_value.specs.declared.operation.Op.TheVariants.{RegisterRead, RegisterWrite, CounterRead, CounterAdd, SetMembers, SetContains, SetAdd, SetRemove, FlagRead, FlagEnable, FlagDisable, MultiRead, MultiWrite}
+use Rattle.us_value.specs.declared.operation.Op.TheVariants.{RegisterRead, RegisterWrite, CounterRead, CounterAdd, SetMembers, SetContains, SetAdd}
+use Rattle.us_value.specs.declared.operation.Op.TheVariants.{SetRemove, FlagRead, FlagEnable, FlagDisable, MultiRead, MultiWrite}
 
 -- the kinds of the spaces 1 to 5
 abbrev pub kinds : List Kind

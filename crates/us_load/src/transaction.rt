@@ -1,8 +1,8 @@
 ghost use Rattle.std.specs.Prelude.{◌≡◌, ◌<◌, ◌≤◌, ◌++◌, IfOk, OnOk};
 ghost use Rattle.us_client_wire.specs.Requests.{request_encoding, RequestFits};
 ghost use Rattle.us_load.specs.Words.{stream, skip};
-
-ghost use Rattle.us_load.specs.Transactions.{loaded, operation_count, behind_transaction, performs, perform_of, commit_of, requests, frames, session_lines, settled, transaction};
+ghost use Rattle.us_load.specs.Transactions.{loaded, operation_count, behind_transaction, performs, perform_of, commit_of, requests, frames};
+ghost use Rattle.us_load.specs.Transactions.{session_lines, settled, transaction};
 
 use crate::operation::{item_of, op_of};
 use crate::session::{FIRST, SESSIONS, coord_of, site_of};

@@ -43,8 +43,7 @@ settle 2000 40
 ";
 
 /// The last lines of load 7 with a count of 16: the sixteenth transaction is strong, and the sites settle behind it.
-const LAST: &str =
-    "bytes 3 1 1 0000000201010000000601020501630c00000006010201016601000000020104
+const LAST: &str = "bytes 3 1 1 0000000201010000000601020501630c00000006010201016601000000020104
 flush 3 3
 settle 16000 6
 settle 17000 40

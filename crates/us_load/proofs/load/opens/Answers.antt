@@ -1,6 +1,5 @@
-use Rattle.std.proofs.Common.{ap, sym, ◌∙◌, ◌++◌, ◌∷◌, [], List, arith}
+use Rattle.std.proofs.Common.{arith}
 use Rattle.std.proofs.lemmas.List.FromFn.{map-range_with_len_more}
-use Rattle.us_schedule.specs.declared.line.Line.{Line}
 use Rattle.us_load.specs.Load.{open_line}
 use Rattle.us_load.proofs.load.opens.Goals as goal
 

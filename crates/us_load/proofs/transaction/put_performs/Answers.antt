@@ -9,7 +9,8 @@ loop-left-preserved c =
     let after = stream c.next_u64.new.self in
     record {
       bytes =
-        next_performed c.loop-left.left c.next_u64.result before after c.loop-left.out.items c.in_ok-out.out.items c.loop-left-test.true c.next_u64.ensures (c.in_ok-out.ensures {u = tt})
-        ∙ c.loop-left.invariant.bytes;
+          next_performed c.loop-left.left c.next_u64.result before after c.loop-left.out.items c.in_ok-out.out.items
+          c.loop-left-test.true c.next_u64.ensures (c.in_ok-out.ensures {u = tt})
+          ∙ c.loop-left.invariant.bytes;
       words = next_skipped c.loop-left.left c.next_u64.result before after c.loop-left-test.true c.next_u64.ensures ∙ c.loop-left.invariant.words;
     }
