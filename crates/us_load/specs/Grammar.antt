@@ -10,6 +10,7 @@ use Rattle.us_load.specs.Load.{configuration, load_lines, load_text}
 
 -- a text whose parts are the text before its separator, and behind it the text of lines, each of which the grammar allows for the shape
 pub record IsScheduleOf (shape : Shape) (before : List ℕ) (lines : List Line) (text : List ℕ) : Type 0 where
+  -- the number of the line that separates them
   pub separator : ℕ
   pub behind : List ℕ
   pub parted : parted_text text ≡ Some (record { before = before; line = separator; behind = behind })
