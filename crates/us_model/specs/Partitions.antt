@@ -1,11 +1,13 @@
 -- The rules of a partition. Each takes the partition's own actor.
-use Rattle.std.specs.Prelude.{ℕ, ◌+◌, ◌-◌, ◌^◌, ◌%◌, max, min, Option, Some, None}
+use Rattle.std.specs.Prelude.{ℕ, ◌+◌, ◌-◌, ◌^◌, ◌%◌, ◌==◌, max, min, Option, Some, None}
 use Rattle.std.specs.Prelude.{List, [], ◌∷◌, ◌++◌, filter, position, remove, slice_get}
-use Rattle.std.specs.Prelude.{Bool, false, not, ◌&&◌, if◌then◌else◌, nat_le, nat_lt}
+use Rattle.std.specs.Prelude.{Bool, true, false, not, ◌&&◌, if◌then◌else◌, nat_le, nat_lt}
 use Rattle.std.specs.List.{list_any}
 use Rattle.us_kind.specs.Comparison.{tid_eq}
 use Rattle.us_kind.specs.declared.identity.Tid.{Tid}
-use Rattle.us_base.specs.Vector.{entry, at_most, with_entry}
+use Rattle.us_base.specs.Vector.{entry, at_most, join, with_entry}
+use Rattle.us_base.specs.Place.{place_of}
+use Rattle.us_value.specs.declared.item.Item.{Item}
 use Rattle.us_value.specs.declared.item.Write.{Write}
 use Rattle.us_value.specs.declared.operation.Effect.{Effect}
 use Rattle.us_value.specs.declared.operation.Answer.{Answer}
@@ -41,9 +43,25 @@ known me p = with_entry p.received me.site (own_known p.clock p.prepared)
 abbrev pub base : Actor → Partition → List ℕ
 base me p = known me p
 
--- GET: the clock rises to the snapshot, and the question waits. The one partition keeps every item, and no floor is raised
-abbrev pub get : Actor → Partition → Get → Partition
-get me p g = record p { clock = max p.clock (entry g.snapshot me.site); parked = p.parked ++ g ∷ [] }
+-- WHAT IS HERE: of so many partitions, this one keeps the item
+abbrev pub is_home : ℕ → Actor → Item → Bool
+is_home parts me item = place_of parts item.space item.id == me.actor
+
+-- all that is written is here
+abbrev pub are_home : ℕ → Actor → List Write → Bool
+are_home parts me [] = true
+are_home parts me (w ∷ ws) = is_home parts me w.item && are_home parts me ws
+
+-- GET: the clock rises to the snapshot, and the question waits. One on an item of another partition is dropped, and so is one with
+-- a snapshot that isn't at least the floor
+abbrev pub may_get : ℕ → Actor → Partition → Get → Bool
+may_get parts me p g = is_home parts me g.item && at_most p.floor g.snapshot
+
+abbrev pub parked_with : Actor → Partition → Get → Partition
+parked_with me p g = record p { clock = max p.clock (entry g.snapshot me.site); parked = p.parked ++ g ∷ [] }
+
+abbrev pub get : ℕ → Actor → Partition → Get → Partition
+get parts me p g = if may_get parts me p g then parked_with me p g else p
 
 -- PREPARE
 -- the least number above n that leaves the remainder r modulo 64
@@ -56,8 +74,10 @@ contains_tid tid tids = list_any (λ t. tid_eq t tid) tids
 abbrev pub timestamp_for : Actor → Partition → List ℕ → ℕ
 timestamp_for me p snapshot = next_timestamp me.actor (max p.clock (entry snapshot me.site))
 
-abbrev pub may_prepare : Actor → Partition → Tid → List ℕ → Bool
-may_prepare me p tid snapshot = not (contains_tid tid p.done) && nat_le (timestamp_for me p snapshot) (2 ^ 62)
+-- a transaction is prepared once, where all that it writes is, and under no timestamp above the greatest number
+abbrev pub may_prepare : ℕ → Actor → Partition → Tid → List ℕ → List Write → Bool
+may_prepare parts me p tid snapshot writes =
+    not (contains_tid tid p.done) && (are_home parts me writes && nat_le (timestamp_for me p snapshot) (2 ^ 62))
 
 abbrev pub prepared : Actor → Partition → Tid → List ℕ → List Write → Partition
 prepared me p tid snapshot writes =
@@ -67,9 +87,23 @@ prepared me p tid snapshot writes =
       done = p.done ++ tid ∷ [];
     }
 
--- COMMIT: the transaction moves to the log
+-- COMMIT: the transaction moves to the log. It must be prepared, under a timestamp that the vector's own entry reaches
 abbrev pub is_of : Tid → PreparedTx → Bool
 is_of tid q = tid_eq q.tid tid
+
+abbrev pub is_reached : Actor → List ℕ → PreparedTx → Bool
+is_reached me vector q = nat_le q.ts (entry vector me.site)
+
+abbrev pub reached_one : Actor → List ℕ → Option PreparedTx → Bool
+reached_one me vector None = false
+reached_one me vector (Some q) = is_reached me vector q
+
+abbrev pub reached_at : Actor → Partition → List ℕ → Option ℕ → Bool
+reached_at me p vector None = false
+reached_at me p vector (Some i) = reached_one me vector (slice_get p.prepared i)
+
+abbrev pub may_commit : Actor → Partition → Tid → List ℕ → Bool
+may_commit me p tid vector = reached_at me p vector (position (is_of tid) p.prepared)
 
 abbrev pub committed : Actor → Partition → List ℕ → ℕ → PreparedTx → Partition
 committed me p vector i q =
@@ -81,7 +115,7 @@ committed me p vector i q =
 
 abbrev pub commit_one : Actor → Partition → List ℕ → ℕ → Option PreparedTx → Partition
 commit_one me p vector i None = p
-commit_one me p vector i (Some q) = if nat_le q.ts (entry vector me.site) then committed me p vector i q else p
+commit_one me p vector i (Some q) = if is_reached me vector q then committed me p vector i q else p
 
 abbrev pub commit_at : Actor → Partition → List ℕ → Option ℕ → Partition
 commit_at me p vector None = p
@@ -130,3 +164,14 @@ versions me spaces known log (g ∷ gs) =
 
 abbrev pub still_parked : List ℕ → List Get → List Get
 still_parked known gs = filter (λ g. not (may_answer known g)) gs
+
+-- THE FLOOR rises, and the questions that ask below it are dropped
+abbrev pub stays_above : List ℕ → Get → Bool
+stays_above floor g = at_most floor g.snapshot
+
+abbrev pub set_floor : List ℕ → Partition → Partition
+set_floor floor p = record p { floor = join p.floor floor; parked = filter (stays_above (join p.floor floor)) p.parked }
+
+-- THE CLOCK rises to a number
+abbrev pub raise : ℕ → Partition → Partition
+raise clock p = record p { clock = max p.clock clock }

@@ -1,5 +1,5 @@
 -- One step of a site: an event is taken by one of its actors, which then wakes.
-use Rattle.std.specs.Prelude.{ℕ, ◌+◌, ◌-◌, List, [], ◌∷◌, ◌++◌, length, Option, Some, None, slice_get, slice_set, map}
+use Rattle.std.specs.Prelude.{ℕ, ◌+◌, ◌-◌, List, [], ◌∷◌, ◌++◌, Option, Some, None, slice_get, slice_set, map}
 use Rattle.std.specs.Prelude.{Bool, true, false, ◌&&◌, ◌==◌, if◌then◌else◌, nat_lt, nat_le}
 use Rattle.std.specs.List.{range_with_len}
 use Rattle.us_base.specs.Vector.{zero}
@@ -69,10 +69,10 @@ answer_to me from m = record { from = me; to = from; message = m }
 abbrev pub take_message : Actor → Shape → Actor → ActorStep → Message → ActorStep
 take_message me shape from w (message.Get tid place at snapshot item op own) =
     with_partition w
-    (get me w.shard.partition (record { from = from.actor; tid = tid; place = place; at = at; snapshot = snapshot; item = item; op = op; own = own })) []
+    (get shape.parts me w.shard.partition (record { from = from.actor; tid = tid; place = place; at = at; snapshot = snapshot; item = item; op = op; own = own })) []
 take_message me shape from w (message.Version v) = all_sessions (version v) me shape w
 take_message me shape from w (message.Prepare tid snapshot writes) =
-    if may_prepare me w.shard.partition tid snapshot
+    if may_prepare shape.parts me w.shard.partition tid snapshot writes
     then with_partition w (prepared_here me w.shard.partition tid snapshot writes)
     (answer_to me from (message.Prepared tid (timestamp_for me w.shard.partition snapshot)) ∷ [])
     else w
@@ -168,7 +168,7 @@ site_step site e = step_of site e (record { site = site.number; actor = actor_of
 abbrev pub new_shard : Shard
 new_shard =
     record {
-      partition = record { clock = 0; log = []; prepared = []; done = []; received = zero; parked = [] };
+      partition = record { clock = 0; log = []; prepared = []; done = []; received = zero; parked = []; floor = zero };
       coordinator = new_coordinator;
     }
 

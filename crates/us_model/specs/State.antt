@@ -9,7 +9,8 @@ use Rattle.us_model.specs.declared.coordinator.Session.{Session}
 use Rattle.us_model.specs.declared.settings.Settings.{Settings}
 
 -- a partition: its clock; the transactions that are committed, in order of coming; those that are prepared; all that
--- ever were; up to where it has all transactions of other sites; the questions that wait, in order of coming
+-- ever were; up to where it has all transactions of other sites; the questions that wait, in order of coming; the floor, below
+-- which no snapshot is answered any more
 pub record Partition : Type 0 where
   pub clock : ℕ
   pub log : List LogTx
@@ -17,6 +18,7 @@ pub record Partition : Type 0 where
   pub done : List Tid
   pub received : List ℕ
   pub parked : List Get
+  pub floor : List ℕ
 
 -- a coordinator: how many transactions were begun and how many sessions were opened at it, and those of the sessions that are
 -- open or still committing, in order of opening
