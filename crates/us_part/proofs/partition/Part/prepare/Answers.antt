@@ -1,8 +1,8 @@
 use Rattle.std.proofs.Common.{◌≡◌, sym, ap, arith}
 use Rattle.std.proofs.lemmas.Bool.{cond-false}
 use Rattle.us_model.specs.State.{Partition}
-use Rattle.us_site.proofs.Partitions.{may_prepare-late}
-use Rattle.us_site.proofs.partition.Part.prepare.Goals as goal
+use Rattle.us_part.proofs.Partitions.{may_prepare-late}
+use Rattle.us_part.proofs.partition.Part.prepare.Goals as goal
 
 pub returns-then-above-ge-GREATEST-clause-state : goal.returns-then-above-ge-GREATEST-clause-state
 returns-then-above-ge-GREATEST-clause-state c =

@@ -1,18 +1,17 @@
 //! The versions of items that a partition's log tells.
-ghost use Rattle.std.specs.Prelude.{◌≡◌, ◌++◌, IfOk, OnOk, slice_get};
-ghost use Rattle.us_site.specs.Logs.{after_one, after_places};
-ghost use Rattle.us_value.specs.Values.{answered, prepared, updated};
-ghost use Rattle.us_history.specs.States.{after_writes, after_log, after_own};
+ghost use Rattle.std.specs.Prelude.{◌≡◌, ◌++◌, IfOk, OnOk};
+ghost use Rattle.us_value.specs.Values.{answered, prepared};
+ghost use Rattle.us_history.specs.States.{after_own};
 ghost use Rattle.us_model.specs.Partitions.{state_for, is_too_long, form_for, version_for, versions};
 
-use crate::log::Log;
 use std::alloc::Global;
 use us_base::{Limits, Vector};
 use us_kind::{Items, Memory, Stamp, Tag, Tid};
-use us_model::{Get, LogTx};
+use us_model::Get;
+use us_oplog::{OpLog, apply_effect};
 use us_peer_wire::{Actor, Form, Message, Packet, Version};
 use us_value::{
-    Answer, Catalog, Effect, Item, Kind, Op, State, ValueFault, Write, answer_len, effect_len,
+    Answer, Catalog, Effect, Kind, Op, State, ValueFault, answer_len, effect_len,
 };
 
 /// The sum under which a transaction's own effects count: above every other.
@@ -30,11 +29,11 @@ pub fn push_versions(
     me: &Actor,
     catalog: &Catalog,
     known: &Vector,
-    log: &Log,
+    log: &OpLog,
     questions: &[Get],
     packets: &mut Items<Packet>,
 ) -> Result<(), Memory>
-    ensures { OnOk result (packets.new ≡ packets.old ++ versions me.now catalog.now known.now log.now questions.now) }
+    ensures { OnOk result (packets.new ≡ packets.old ++ versions me.now catalog.now known.now log.now.transactions questions.now) }
 {
     for question in questions {
         if question.snapshot.at_most(known) {
@@ -49,10 +48,10 @@ fn version_of(
     alloc: Global,
     me: &Actor,
     catalog: &Catalog,
-    log: &Log,
+    log: &OpLog,
     question: &Get,
 ) -> Result<Packet, Memory>
-    ensures { IfOk result (λ packet. packet ≡ version_for me.now catalog.now log.now question.now) }
+    ensures { IfOk result (λ packet. packet ≡ version_for me.now catalog.now log.now.transactions question.now) }
 {
     let state = state_of(alloc, catalog, log, question)?;
     let tag = Tag {
@@ -123,124 +122,17 @@ fn effect_at(alloc: Global, state: &State, op: &Op, tag: Tag) -> Result<Option<E
     }
 }
 
-/// How many updates a counter takes at most.
-const UPDATES: u64 = 1 << 60;
-
-/// Makes an effect part of a state. One of another kind changes nothing, as above. A counter that takes no more updates
-/// counts as out of memory: none is met, since a site takes fewer than 2^48 events (docs/DECISIONS.md).
-fn apply_effect(
-    alloc: Global,
-    state: &mut State,
-    effect: &Effect,
-    stamp: Stamp,
-) -> Result<(), Memory>
-    ensures { OnOk result (state.new ≡ updated state.old effect.now stamp) }
-{
-    if state.update_count() >= UPDATES {
-        return Err(Memory);
-    }
-    match us_value::apply(alloc, state, effect, stamp) {
-        Ok(()) => Ok(()),
-        Err(ValueFault::WrongOperation) => Ok(()),
-        Err(ValueFault::Memory) => Err(Memory),
-    }
-}
-
 /// The state of the question's item at its snapshot, and the transaction's own effects on top.
 #[tactic(auto, unfolding(us_model::specs::Partitions::state_for))]
-fn state_of(alloc: Global, catalog: &Catalog, log: &Log, question: &Get) -> Result<State, Memory>
-    ensures { IfOk result (λ state. state ≡ state_for catalog.now log.now question.now) }
+fn state_of(alloc: Global, catalog: &Catalog, log: &OpLog, question: &Get) -> Result<State, Memory>
+    ensures { IfOk result (λ state. state ≡ state_for catalog.now log.now.transactions question.now) }
 {
     let kind = catalog
         .kind_of(question.item.space)
         .unwrap_or(Kind::Register);
-    let mut state = State::initial(alloc, kind)?;
-    apply_log(alloc, &mut state, &question.item, &question.snapshot, log)?;
+    let mut state = log.read_at(&question.item, kind, &question.snapshot)?;
     apply_own(alloc, &mut state, question.tid, question.own.as_slice())?;
     Ok(state)
-}
-
-/// The log's writes on the item, by transactions with vectors at most the snapshot.
-#[tactic(auto, using(crate::proofs::LogPlaces::state_by_places))]
-fn apply_log(
-    alloc: Global,
-    state: &mut State,
-    item: &Item,
-    snapshot: &Vector,
-    log: &Log,
-) -> Result<(), Memory>
-    ensures { OnOk result (state.new ≡ after_log item.now snapshot.now state.old log.now) }
-{
-    let places = log.places_of(item);
-    apply_places(alloc, state, item, snapshot, log.as_slice(), places)
-}
-
-/// The writes on the item of the transactions at these places.
-fn apply_places(
-    alloc: Global,
-    state: &mut State,
-    item: &Item,
-    snapshot: &Vector,
-    transactions: &[LogTx],
-    places: &[usize],
-) -> Result<(), Memory>
-    ensures { OnOk result (state.new ≡ after_places item.now snapshot.now transactions.now state.old places.now) }
-{
-    for place in places {
-        apply_at(alloc, state, item, snapshot, transactions, *place)?;
-    }
-    Ok(())
-}
-
-/// The writes on the item of the transaction at this place, where its vector is at most the snapshot.
-fn apply_at(
-    alloc: Global,
-    state: &mut State,
-    item: &Item,
-    snapshot: &Vector,
-    transactions: &[LogTx],
-    place: usize,
-) -> Result<(), Memory>
-    ensures { OnOk result (state.new ≡ after_one item.now snapshot.now state.old (slice_get transactions.now place)) }
-{
-    let Some(transaction) = transactions.get(place) else {
-        return Ok(());
-    };
-    if !transaction.vector.at_most(snapshot) {
-        return Ok(());
-    }
-    apply_writes(
-        alloc,
-        state,
-        item,
-        transaction.vector.sum(),
-        transaction.tid,
-        transaction.writes.as_slice(),
-    )
-}
-
-/// A transaction's writes on the item.
-fn apply_writes(
-    alloc: Global,
-    state: &mut State,
-    item: &Item,
-    sum: u128,
-    tid: Tid,
-    writes: &[Write],
-) -> Result<(), Memory>
-    ensures { OnOk result (state.new ≡ after_writes item.now sum tid state.old writes.now) }
-{
-    for write in writes {
-        if write.item.same(item) {
-            let stamp = Stamp {
-                sum,
-                tid,
-                place: write.place,
-            };
-            apply_effect(alloc, state, &write.effect, stamp)?;
-        }
-    }
-    Ok(())
 }
 
 /// The transaction's own effects, above every other.

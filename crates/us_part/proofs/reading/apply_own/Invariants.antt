@@ -1,6 +1,6 @@
 use Rattle.std.proofs.Common.{◌≡◌, drop}
 use Rattle.us_history.specs.States.{after_own}
-use Rattle.us_site.proofs.reading.apply_own.Given as goal
+use Rattle.us_part.proofs.reading.apply_own.Given as goal
 
 -- the rest of the effects go on from the state so far
 abbrev pub invariant-loop-place : goal.invariant-loop-place

@@ -1,8 +1,8 @@
 use Rattle.std.proofs.Common.{◌∙◌, ap, sym, drop, ◌+◌}
 use Rattle.us_model.specs.Partitions.{least_ts}
-use Rattle.us_site.proofs.Loops.{drop-turn}
-use Rattle.us_site.proofs.Partitions.{least_ts-min}
-use Rattle.us_site.proofs.partition.least_of.Goals as goal
+use Rattle.us_part.proofs.Loops.{drop-turn}
+use Rattle.us_part.proofs.Partitions.{least_ts-min}
+use Rattle.us_part.proofs.partition.least_of.Goals as goal
 
 pub loop-transaction-preserved : goal.loop-transaction-preserved
 loop-transaction-preserved c =

@@ -1,6 +1,6 @@
 use Rattle.std.proofs.Common.{◌≡◌, ◌++◌, drop}
 use Rattle.us_model.specs.Partitions.{versions}
-use Rattle.us_site.proofs.reading.push_versions.Given as goal
+use Rattle.us_part.proofs.reading.push_versions.Given as goal
 
 -- what was pushed and what is left to answer are all answers
 abbrev pub invariant-loop-question : goal.invariant-loop-question
