@@ -15,7 +15,7 @@ pub record Placed : Type 0 where
 
 -- a partition's actor in a store of this shape
 pub record IsPlace (shape : Shape) (me : Actor) : Type 0 where
-  pub shape : IsShape shape
+  pub store : IsShape shape
   pub site : me.site < 10
   pub some : 1 ≤ me.actor
   pub few : me.actor ≤ shape.parts

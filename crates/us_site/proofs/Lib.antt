@@ -1,3 +1,2 @@
-pub mod LogPlaces
 pub mod Loops
-pub mod Partitions
+pub mod Standing

@@ -1,9 +1,6 @@
 //! One site: one step of it is the machine's rule.
 #![tactic(auto)]
 
-mod log;
-mod partition;
-mod reading;
 mod shard;
 mod site;
 

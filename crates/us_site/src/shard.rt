@@ -4,8 +4,9 @@ ghost use Rattle.us_model.specs.Coordinators.{open_in, waits_in};
 ghost use Rattle.us_model.specs.Sites.{new_shard, view_of, take_message, op_is_of, effect_is_of, own_are_of, writes_fit, message_fits};
 ghost use Rattle.us_model.specs.Sites.{is_partition, is_for, take_event, wake, no_outputs};
 ghost use Rattle.us_base.specs.Shape.{IsShape};
+ghost use Rattle.us_part.specs.Placed.{IsPlace};
+ghost use Rattle.us_site.specs.Shards.{shard_of, with_shard, IsAt};
 
-use crate::partition::Part;
 use std::alloc::Global;
 use std::marker::Model;
 use us_base::{Shape, Vector};
@@ -13,6 +14,7 @@ use us_coord::{Coordinator, refuse_open};
 use us_exec::WaitingRequest;
 use us_kind::{Items, Memory, Tid};
 use us_model::{Event, Get, Outputs, Settings, View, Vote};
+use us_part::Part;
 use us_peer_wire::{Actor, Message, Packet};
 use us_value::{Catalog, Effect, Kind, Op, Write, effect_fits, op_fits};
 
@@ -24,19 +26,22 @@ pub struct Shard {
 }
 
 impl Model for Shard {
-    ghost use Rattle.us_model.specs.State.{Shard};
+    ghost use Rattle.us_site.specs.Shards.{Kept};
 
-    ghost Value = { Shard };
+    ghost Value = { Kept };
 
-    ghost view = { λ a. record { partition = a.part; coordinator = a.coordinator } };
+    ghost view = { λ a. record { part = a.part; coordinator = a.coordinator } };
 }
 
 impl Shard {
-    pub fn new(alloc: Global) -> Shard
-        ensures { result ≡ new_shard }
+    /// The actor of this number at this site, where nothing has happened.
+    pub fn new(alloc: Global, shape: Shape, site: u8, actor: u8) -> Shard
+        requires { IsPlace shape (record { site = site; actor = actor }) }
+        ensures shard { shard_of result ≡ new_shard }
+        ensures place { IsAt shape (record { site = site; actor = actor }) result }
     {
         Shard {
-            part: Part::new(alloc),
+            part: Part::new(alloc, shape, site, actor),
             coordinator: Coordinator::new(alloc),
         }
     }
@@ -50,13 +55,13 @@ impl Shard {
 
     /// What the coordinator sees of its actor.
     fn view(&self, me: &Actor, settings: &Settings) -> View
-        requires { me.now.site < 10 }
-        ensures { result ≡ view_of me.now settings.now.shape (record { shard = self.now; out = no_outputs }) }
+        requires { IsAt settings.now.shape me.now self.now }
+        ensures { result ≡ view_of me.now settings.now.shape (record { shard = shard_of self.now; out = no_outputs }) }
     {
         View {
             me: *me,
             shape: settings.shape,
-            base: self.part.known(me),
+            base: self.part.known(),
         }
     }
 
@@ -79,13 +84,13 @@ impl Shard {
         writes: Items<Write>,
     ) -> Result<Outputs, Memory>
         requires site { me.now.site < 10 }
-        requires actor { me.now.actor < 64 }
-        ensures shard { OnOk result (self.new ≡ (take_message me.now settings.now.shape from.now (record { shard = self.old; out = out })
+        requires here { IsAt settings.now.shape me.now self.old }
+        ensures shard { OnOk result (self.new ≡ with_shard self.old (take_message me.now settings.now.shape from.now (record { shard = shard_of self.old; out = out })
             (Message.Prepare tid snapshot writes)).shard) }
-        ensures out { IfOk result (λ given. given ≡ (take_message me.now settings.now.shape from.now (record { shard = self.old; out = out })
+        ensures out { IfOk result (λ given. given ≡ (take_message me.now settings.now.shape from.now (record { shard = shard_of self.old; out = out })
             (Message.Prepare tid snapshot writes)).out) }
     {
-        if let Some(ts) = self.part.prepare(me, tid, snapshot, writes)? {
+        if let Some(ts) = self.part.prepare(tid, snapshot, writes)? {
             out.packets.push(Packet {
                 from: *me,
                 to: *from,
@@ -106,12 +111,12 @@ impl Shard {
         message: Message,
     ) -> Result<Outputs, Memory>
         requires site { me.now.site < 10 }
-        requires actor { me.now.actor < 64 }
+        requires here { IsAt settings.now.shape me.now self.old }
         requires shape { IsShape settings.now.shape }
-        ensures shard { OnOk result (self.new ≡ (take_message me.now settings.now.shape from.now
-            (record { shard = self.old; out = out }) message).shard) }
+        ensures shard { OnOk result (self.new ≡ with_shard self.old (take_message me.now settings.now.shape from.now
+            (record { shard = shard_of self.old; out = out }) message).shard) }
         ensures out { IfOk result (λ given. given ≡ (take_message me.now settings.now.shape from.now
-            (record { shard = self.old; out = out }) message).out) }
+            (record { shard = shard_of self.old; out = out }) message).out) }
     {
         match message {
             Message::Get {
@@ -133,7 +138,7 @@ impl Shard {
                     op,
                     own,
                 };
-                self.part.get(me, question)?;
+                self.part.get(question)?;
                 Ok(out)
             }
             Message::Version { version } => {
@@ -154,7 +159,7 @@ impl Shard {
                 self.coordinator.prepared(alloc, &view, one, tid, out)
             }
             Message::Commit { tid, vector } => {
-                self.part.commit(me, &tid, vector)?;
+                self.part.commit(&tid, vector)?;
                 Ok(out)
             }
             _ => Ok(out),
@@ -173,10 +178,10 @@ impl Shard {
         event: Event,
     ) -> Result<Outputs, Memory>
         requires site { me.now.site < 10 }
-        requires actor { me.now.actor < 64 }
+        requires here { IsAt settings.now.shape me.now self.old }
         requires shape { IsShape settings.now.shape }
-        ensures shard { OnOk result (self.new ≡ (take_event me.now settings.now full (record { shard = self.old; out = out }) event).shard) }
-        ensures out { IfOk result (λ given. given ≡ (take_event me.now settings.now full (record { shard = self.old; out = out }) event).out) }
+        ensures shard { OnOk result (self.new ≡ with_shard self.old (take_event me.now settings.now full (record { shard = shard_of self.old; out = out }) event).shard) }
+        ensures out { IfOk result (λ given. given ≡ (take_event me.now settings.now full (record { shard = shard_of self.old; out = out }) event).out) }
     {
         match event {
             Event::Open { coord } if full => refuse_open(alloc, settings.shape, coord, out),
@@ -224,12 +229,13 @@ impl Shard {
         mut out: Outputs,
     ) -> Result<Outputs, Memory>
         requires site { me.now.site < 10 }
+        requires here { IsAt settings.now.shape me.now self.old }
         requires shape { IsShape settings.now.shape }
-        ensures shard { OnOk result (self.new ≡ (wake me.now settings.now (record { shard = self.old; out = out })).shard) }
-        ensures out { IfOk result (λ given. given ≡ (wake me.now settings.now (record { shard = self.old; out = out })).out) }
+        ensures shard { OnOk result (self.new ≡ with_shard self.old (wake me.now settings.now (record { shard = shard_of self.old; out = out })).shard) }
+        ensures out { IfOk result (λ given. given ≡ (wake me.now settings.now (record { shard = shard_of self.old; out = out })).out) }
     {
         self.part
-            .answer_parked(alloc, me, &settings.catalog, &mut out.packets)?;
+            .ready(alloc, &settings.catalog, &mut out.packets)?;
         let view = self.view(me, settings);
         self.coordinator.run(alloc, &settings.catalog, &view, out)
     }
@@ -244,12 +250,12 @@ impl Shard {
         event: Event,
     ) -> Result<Outputs, Memory>
         requires site { me.now.site < 10 }
-        requires actor { me.now.actor < 64 }
+        requires here { IsAt settings.now.shape me.now self.old }
         requires shape { IsShape settings.now.shape }
-        ensures shard { OnOk result (self.new ≡ (wake me.now settings.now
-            (take_event me.now settings.now full (record { shard = self.old; out = no_outputs }) event)).shard) }
+        ensures shard { OnOk result (self.new ≡ with_shard self.old (wake me.now settings.now
+            (take_event me.now settings.now full (record { shard = shard_of self.old; out = no_outputs }) event)).shard) }
         ensures out { IfOk result (λ given. given ≡ (wake me.now settings.now
-            (take_event me.now settings.now full (record { shard = self.old; out = no_outputs }) event)).out) }
+            (take_event me.now settings.now full (record { shard = shard_of self.old; out = no_outputs }) event)).out) }
     {
         let out = Outputs {
             packets: Items::new(alloc),

@@ -1,13 +1,14 @@
 //! One site.
-ghost use Rattle.std.specs.Prelude.{◌≡◌, ◌<◌, ◌≤◌, ◌+◌, ◌++◌, false, is_err, length, nat_le, IfOk, OnOk};
+ghost use Rattle.std.specs.Prelude.{◌≡◌, ◌<◌, ◌≤◌, ◌+◌, ◌++◌, false, is_err, length, map, nat_le, IfOk, OnOk};
 ghost use Rattle.us_base.specs.Shape.{IsShape};
 ghost use Rattle.us_model.specs.Sites.{actor_of, new_shards, no_outputs, open_at, site_step};
 ghost use Rattle.us_model.specs.Worlds.{waits_at};
+ghost use Rattle.us_site.specs.Shards.{shard_of, AreAt};
 
 use crate::shard::Shard;
 use std::alloc::Global;
 use std::marker::Model;
-use us_base::Limits;
+use us_base::{Limits, Shape};
 use us_exec::WaitingRequest;
 use us_kind::{Items, Memory, checked_sum};
 use us_model::{Event, Outputs, Settings};
@@ -27,24 +28,34 @@ pub struct Site {
 }
 
 impl Model for Site {
-    ghost use Rattle.std.specs.Prelude.{◌≡◌, ◌<◌, length};
+    ghost use Rattle.std.specs.Prelude.{◌≡◌, ◌<◌, false, length, map};
     ghost use Rattle.us_base.specs.Shape.{IsShape};
+    ghost use Rattle.us_site.specs.Shards.{shard_of, AreAt};
     ghost use Rattle.us_site.specs.Served.{Served};
 
     ghost Value = { Served };
 
-    ghost view = { λ a. record { site = record { number = a.number; settings = a.settings; shards = a.shards.items }; taken = a.taken; stopped = a.stopped } };
+    ghost view = { λ a. record { site = record { number = a.number; settings = a.settings; shards = map shard_of a.shards.items }; taken = a.taken; stopped = a.stopped } };
 
-    ghost invariant = { λ a. record { number : a.number < 10; shape : IsShape a.settings.shape; shards : length a.shards.items ≡ a.settings.shape.parts } };
+    ghost invariant = { λ a. record {
+        number : a.number < 10;
+        shape : IsShape a.settings.shape;
+        shards : length a.shards.items ≡ a.settings.shape.parts;
+        places : a.stopped ≡ false → AreAt a.settings.shape a.number 1 a.shards.items;
+    } };
 }
 
-/// A shard for each partition.
-fn new_shards(alloc: Global, parts: u8) -> Result<Vec<Shard>, Memory>
-    ensures { IfOk result (λ shards. shards.items ≡ new_shards parts) }
+/// A shard for each partition of this site.
+fn new_shards(alloc: Global, shape: Shape, site: u8) -> Result<Vec<Shard>, Memory>
+    requires site { site < 10 }
+    requires shape { IsShape shape }
+    ensures shards { IfOk result (λ shards. map shard_of shards.items ≡ new_shards shape.parts) }
+    ensures count { IfOk result (λ shards. length shards.items ≡ shape.parts) }
+    ensures places { IfOk result (λ shards. AreAt shape site 1 shards.items) }
 {
     let mut shards = Vec::new(alloc);
-    for _ in 0..parts {
-        shards.push(Shard::new(alloc))?;
+    for before in 0..shape.parts {
+        shards.push(Shard::new(alloc, shape, site, before + 1))?;
     }
     Ok(shards)
 }
@@ -58,7 +69,7 @@ impl Site {
         requires shape { IsShape settings.now.shape }
         ensures { IfOk result (λ site. site ≡ record { site = new_site settings.now number; taken = 0; stopped = false }) }
     {
-        let shards = new_shards(alloc, settings.shape.parts)?;
+        let shards = new_shards(alloc, settings.shape, number)?;
         Ok(Site {
             number,
             settings: settings.copy()?,
@@ -127,7 +138,7 @@ fn actor_in(event: &Event) -> u8
 /// The sessions that wait at a site's actors, in order, are put behind those that are there.
 fn put_waits_at(site: u8, shards: &[Shard], waits: &mut Vec<WaitingRequest>) -> Result<(), Memory>
     requires { length shards.now ≤ 16 }
-    ensures { OnOk result (waits.new.items ≡ waits.old.items ++ waits_at site 1 shards.now) }
+    ensures { OnOk result (waits.new.items ≡ waits.old.items ++ waits_at site 1 (map shard_of shards.now)) }
 {
     for place in 0..shards.len() {
         let me = Actor {
@@ -141,7 +152,7 @@ fn put_waits_at(site: u8, shards: &[Shard], waits: &mut Vec<WaitingRequest>) -> 
 
 /// Whether as many sessions are open at these actors as may be at a site.
 fn is_full(shards: &[Shard]) -> bool
-    ensures { result ≡ nat_le 4096 (open_at shards.now) }
+    ensures { result ≡ nat_le 4096 (open_at (map shard_of shards.now)) }
 {
     let mut open: usize = 0;
     for shard in shards {
@@ -175,8 +186,10 @@ fn step_shards(
     requires number { number < 10 }
     requires shape { IsShape settings.now.shape }
     requires few { length shards.old ≤ 16 }
-    ensures shards { OnOk result ((site_step (record { number = number; settings = settings.now; shards = shards.old }) event).site ≡ record { number = number; settings = settings.now; shards = shards.new }) }
-    ensures out { IfOk result (λ out. out ≡ (site_step (record { number = number; settings = settings.now; shards = shards.old }) event).out) }
+    requires places { AreAt settings.now.shape number 1 shards.old }
+    ensures shards { OnOk result ((site_step (record { number = number; settings = settings.now; shards = map shard_of shards.old }) event).site ≡ record { number = number; settings = settings.now; shards = map shard_of shards.new }) }
+    ensures places { OnOk result (AreAt settings.now.shape number 1 shards.new) }
+    ensures out { IfOk result (λ out. out ≡ (site_step (record { number = number; settings = settings.now; shards = map shard_of shards.old }) event).out) }
 {
     let actor = actor_in(&event);
     if actor == 0 || usize::from(actor) > shards.len() {
