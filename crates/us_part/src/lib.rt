@@ -7,3 +7,6 @@ mod reading;
 
 pub use partition::Part;
 pub use us_model::Get;
+
+#[cfg(test)]
+mod tests;

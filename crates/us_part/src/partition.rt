@@ -1,5 +1,5 @@
 //! The rules of a partition.
-ghost use Rattle.std.specs.Prelude.{◌≡◌, ◌<◌, ◌^◌, ◌++◌, ◌∷◌, [], IfOk, OnOk, Some, None, if◌then◌else◌, position, not, filter};
+ghost use Rattle.std.specs.Prelude.{◌≡◌, ◌<◌, ◌^◌, ◌++◌, ◌∷◌, [], IfOk, OnOk, IfSome, Some, None, if◌then◌else◌, position, not, filter};
 ghost use Rattle.us_base.specs.Shape.{IsShape};
 ghost use Rattle.us_base.specs.Vector.{zero};
 ghost use Rattle.us_part.specs.Placed.{IsPlace, IsBelow};
@@ -42,17 +42,17 @@ impl Model for Part {
     ghost Value = { Placed };
 
     ghost view = { λ a. record {
-        shape = a.shape;
-        me = a.me;
-        partition = record {
-            clock = a.clock;
-            log = a.log.transactions;
-            prepared = a.prepared.items;
-            done = a.done;
-            received = a.received;
-            parked = a.parked.items;
-            floor = a.log.floor;
-        };
+      shape = a.shape;
+      me = a.me;
+      partition = record {
+        clock = a.clock;
+        log = a.log.transactions;
+        prepared = a.prepared.items;
+        done = a.done;
+        received = a.received;
+        parked = a.parked.items;
+        floor = a.log.floor;
+      };
     } };
 
     ghost invariant = { λ a. record { place : IsPlace a.shape a.me; clocked : AreClocked a.clock a.prepared.items } };
@@ -63,9 +63,9 @@ impl Part {
     pub fn new(alloc: Global, shape: Shape, site: u8, part: u8) -> Part
         requires { IsPlace shape (record { site = site; actor = part }) }
         ensures { result ≡ record {
-            shape = shape;
-            me = record { site = site; actor = part };
-            partition = record { clock = 0; log = []; prepared = []; done = []; received = zero; parked = []; floor = zero };
+          shape = shape;
+          me = record { site = site; actor = part };
+          partition = record { clock = 0; log = []; prepared = []; done = []; received = zero; parked = []; floor = zero };
         } }
     {
         Part {
@@ -118,9 +118,11 @@ impl Part {
         snapshot: Vector,
         writes: Items<Write>,
     ) -> Result<Option<u64>, Memory>
-        ensures state { OnOk result (self.new ≡ record self.old { partition =
-            if may_prepare self.old.shape.parts self.old.me self.old.partition tid snapshot writes
-            then prepared self.old.me self.old.partition tid snapshot writes else self.old.partition }) }
+        ensures state { OnOk result (self.new ≡ record self.old {
+          partition =
+              if may_prepare self.old.shape.parts self.old.me self.old.partition tid snapshot writes
+              then prepared self.old.me self.old.partition tid snapshot writes else self.old.partition;
+        }) }
         ensures told { IfOk result (λ r. r ≡ (if may_prepare self.old.shape.parts self.old.me self.old.partition tid snapshot writes
             then Some (timestamp_for self.old.me self.old.partition snapshot) else None)) }
     {
@@ -151,7 +153,6 @@ impl Part {
         if self.prepared[place].ts > own {
             return Ok(false);
         }
-        self.clock = self.clock.max(own);
         let was = self.prepared.remove(place);
         self.log.append(LogTx {
             tid: was.tid,
@@ -159,6 +160,7 @@ impl Part {
             vector,
             writes: was.writes,
         })?;
+        self.clock = self.clock.max(own);
         Ok(true)
     }
 
@@ -170,8 +172,10 @@ impl Part {
         catalog: &Catalog,
         packets: &mut Items<Packet>,
     ) -> Result<(), Memory>
-        ensures state { OnOk result (self.new ≡ record self.old { partition =
-            record self.old.partition { parked = still_parked (known self.old.me self.old.partition) self.old.partition.parked } }) }
+        ensures state { OnOk result (self.new ≡ record self.old {
+          partition =
+              record self.old.partition { parked = still_parked (known self.old.me self.old.partition) self.old.partition.parked };
+        }) }
         ensures packets { OnOk result (packets.new ≡ packets.old
             ++ versions self.old.me catalog.now (known self.old.me self.old.partition) self.old.partition.log self.old.partition.parked) }
     {
@@ -215,7 +219,8 @@ impl Part {
 
     /// The timestamp for a transaction, if it may be prepared.
     fn timestamp_of(&self, tid: &Tid, snapshot: &Vector, writes: &[Write]) -> Option<u64>
-        ensures { result ≡ (if may_prepare self.now.shape.parts self.now.me self.now.partition tid.now snapshot.now writes.now
+        ensures above { IfSome result (λ ts. self.now.partition.clock < ts) }
+        ensures told { result ≡ (if may_prepare self.now.shape.parts self.now.me self.now.partition tid.now snapshot.now writes.now
             then Some (timestamp_for self.now.me self.now.partition snapshot.now) else None) }
     {
         let above = self.clock.max(snapshot.get(self.me.site));
@@ -315,7 +320,8 @@ fn place_of(transactions: &[PreparedTx], tid: &Tid) -> Option<usize>
 fn timestamp_above(actor: u8, n: u64) -> u64
     requires actor { actor < 64 }
     requires room { n < 2 ^ 62 }
-    ensures { result ≡ next_timestamp actor n }
+    ensures value { result ≡ next_timestamp actor n }
+    ensures above { n < result }
 {
     n + 1 + (u64::from(actor) + STRIDE - (n + 1) % STRIDE) % STRIDE
 }

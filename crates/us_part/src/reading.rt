@@ -10,9 +10,7 @@ use us_kind::{Items, Memory, Stamp, Tag, Tid};
 use us_model::Get;
 use us_oplog::{OpLog, apply_effect};
 use us_peer_wire::{Actor, Form, Message, Packet, Version};
-use us_value::{
-    Answer, Catalog, Effect, Kind, Op, State, ValueFault, answer_len, effect_len,
-};
+use us_value::{Answer, Catalog, Effect, Kind, Op, State, ValueFault, answer_len, effect_len};
 
 /// The sum under which a transaction's own effects count: above every other.
 const OWN_SUM: u128 = u128::MAX;
