@@ -1,5 +1,5 @@
 -- Lemmas on the partition's definitions.
-use Rattle.std.proofs.Common.{◌≡◌, inl, inr, ℕ, zero, suc, ◌<◌, ◌≤◌, ◌^◌, List, [], ◌∷◌, ◌++◌, min, max, arith, ap, sym, subst, false, Bool, ◌&&◌}
+use Rattle.std.proofs.Common.{◌≡◌, inl, inr, ℕ, zero, suc, ◌<◌, ◌≤◌, ◌^◌, List, [], ◌∷◌, ◌++◌, min, max, arith, ap, false, Bool, ◌&&◌}
 use Rattle.std.specs.Prelude.{nat_le, remove}
 use Rattle.std.proofs.lemmas.Bool.Decides.{nat_tests}
 use Rattle.us_kind.specs.Comparison.{In}

@@ -1,4 +1,4 @@
-use Rattle.std.proofs.Common.{◌≡◌, ℕ, sym, ap, subst, arith, ◌<◌}
+use Rattle.std.proofs.Common.{◌≡◌, sym, ap, subst, arith, ◌<◌}
 use Rattle.us_part.specs.Placed.{Placed, AreClocked}
 use Rattle.us_part.proofs.Partitions.{later_clock, one_clocked}
 use Rattle.us_part.proofs.partition.Part.prepare.Goals as goal
