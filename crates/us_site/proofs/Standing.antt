@@ -42,3 +42,7 @@ map-put f (y ∷ ys) (suc i) x = ap (λ zs. f y ∷ zs) (map-put f ys i x)
 pub map-push : {A B : Type 0} (f : A → B) (xs : List A) (x : A) → map f (xs ++ x ∷ []) ≡ map f xs ++ f x ∷ []
 map-push f [] x = refl
 map-push f (y ∷ ys) x = ap (λ zs. f y ∷ zs) (map-push f ys x)
+
+pub length-push : {A : Type 0} (xs : List A) (x : A) → length (xs ++ x ∷ []) ≡ length xs + 1
+length-push [] x = refl
+length-push (y ∷ ys) x = ap suc (length-push ys x)

@@ -25,5 +25,5 @@ pub record IsAt (shape : Shape) (me : Actor) (k : Kept) : Type 0 where
 
 -- the actors stand at their site in order, from this number
 abbrev pub AreAt : Shape → (site actor : ℕ) → List Kept → Type 0
-AreAt shape site actor [] = ⊤
+AreAt shape site actor [] = Unit {0}
 AreAt shape site actor (k ∷ ks) = IsAt shape (record { site = site; actor = actor }) k × AreAt shape site (suc actor) ks
