@@ -234,8 +234,7 @@ impl Shard {
         ensures shard { OnOk result (self.new ≡ with_shard self.old (wake me.now settings.now (record { shard = shard_of self.old; out = out })).shard) }
         ensures out { IfOk result (λ given. given ≡ (wake me.now settings.now (record { shard = shard_of self.old; out = out })).out) }
     {
-        self.part
-            .ready(alloc, &settings.catalog, &mut out.packets)?;
+        self.part.ready(alloc, &settings.catalog, &mut out.packets)?;
         let view = self.view(me, settings);
         self.coordinator.run(alloc, &settings.catalog, &view, out)
     }

@@ -38,10 +38,10 @@ impl Model for Site {
     ghost view = { λ a. record { site = record { number = a.number; settings = a.settings; shards = map shard_of a.shards.items }; taken = a.taken; stopped = a.stopped } };
 
     ghost invariant = { λ a. record {
-        number : a.number < 10;
-        shape : IsShape a.settings.shape;
-        shards : length a.shards.items ≡ a.settings.shape.parts;
-        places : a.stopped ≡ false → AreAt a.settings.shape a.number 1 a.shards.items;
+      number : a.number < 10;
+      shape : IsShape a.settings.shape;
+      shards : length a.shards.items ≡ a.settings.shape.parts;
+      places : a.stopped ≡ false → AreAt a.settings.shape a.number 1 a.shards.items;
     } };
 }
 

@@ -1,8 +1,7 @@
 use Rattle.std.proofs.Common.{◌∙◌, ap, sym, subst, length}
-use Rattle.std.proofs.lemmas.List.FromFn.{length-map-range_with_len}
 use Rattle.us_base.specs.Shape.{IsShape}
 use Rattle.us_model.specs.declared.settings.Settings.{Settings}
-use Rattle.us_model.specs.Sites.{new_shard}
+use Rattle.us_site.specs.Shards.{AreAt}
 use Rattle.us_site.proofs.site.Site.new.Goals as goal
 
 pub invariant_of-result : goal.invariant_of-result
@@ -11,5 +10,6 @@ invariant_of-result c =
     record {
       number = c.requires.number;
       shape = subst (λ (s : Settings). IsShape s.shape) (sym same) c.requires.shape;
-      shards = ap length c.in_ok-shards.ensures ∙ length-map-range_with_len (λ part. new_shard) 1 c.args.settings.now.shape.parts ∙ sym (ap (λ (s : Settings). s.shape.parts) same);
+      shards = c.in_ok-shards.ensures.count ∙ sym (ap (λ (s : Settings). s.shape.parts) same);
+      places = λ _. subst (λ (s : Settings). AreAt s.shape c.args.number 1 c.in_ok-shards.shards.items) (sym same) c.in_ok-shards.ensures.places;
     }
