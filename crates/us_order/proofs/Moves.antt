@@ -26,7 +26,7 @@ use Rattle.us_history.specs.Histories.{Committed, has_own_vector, ops_of}
 use Rattle.us_history.specs.States.{after_own, kind_for, own_effects, state_at}
 use Rattle.us_snapshots.specs.Acts.{Act, act_of, writes_in, met_by, effect_at, acts_from, acts_of}
 use Rattle.us_snapshots.specs.Snapshots.{writes_of, IsDecision}
-use Rattle.us_model.specs.Partitions.{known, get, contains_tid, prepared, timestamp_for, committed, is_of, state_for, may_answer, form_for, versions}
+use Rattle.us_model.specs.Partitions.{known, parked_with, contains_tid, prepared, timestamp_for, committed, is_of, state_for, may_answer, form_for, versions}
 use Rattle.us_model.specs.Partitions.{version_for, still_parked}
 use Rattle.us_order.proofs.Ledgers.{me, Ledger, messages_of, with_messages}
 use Rattle.us_order.proofs.Partition.{PartitionOk, Later, later_same, horizon, read_later, get_keeps, get_later, prepared_keeps, prepared_later}
@@ -197,7 +197,7 @@ prepared_more : (done : List Tid) (xs ms : List Message) (q : PreparedTx) → Pr
 prepared_more done xs ms q h = record { done = h.done; asked = in_front _ xs ms h.asked; told = in_front _ xs ms h.told; above = h.above }
 
 pub get_moves : (spaces : Spaces) (p : Partition) (l : Ledger) (g : Get) → PartitionFacts spaces p l → SharedFacts l
-    → In (message.Get g.tid g.place g.at g.snapshot g.item g.op g.own) l.messages → Moves spaces p (get me p g) l []
+    → In (message.Get g.tid g.place g.at g.snapshot g.item g.op g.own) l.messages → Moves spaces p (parked_with me p g) l []
 get_moves spaces p l g h all asked =
     let f = h.messages _ asked in
     let small : entry g.snapshot 1 ≤ 2 ^ 62 = subst (λ sn. entry sn 1 ≤ 2 ^ 62) f.snapshot_is (all.told.begun_form f.by f.here).small in

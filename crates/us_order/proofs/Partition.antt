@@ -22,7 +22,7 @@ use Rattle.us_model.specs.declared.partition.PreparedTx.{PreparedTx}
 use Rattle.us_model.specs.declared.partition.Get.{Get}
 use Rattle.us_model.specs.State.{Partition}
 use Rattle.us_history.specs.States.{after_log, after_writes}
-use Rattle.us_model.specs.Partitions.{own_known, known, least_ts, next_timestamp, timestamp_for, get, prepared, committed, commit, commit_at, commit_one, is_of}
+use Rattle.us_model.specs.Partitions.{own_known, known, least_ts, next_timestamp, timestamp_for, parked_with, prepared, committed, commit, commit_at, commit_one, is_of}
 use Rattle.us_order.proofs.Ledgers.{me}
 
 pub next_timestamp-above : (r n : ℕ) → n < next_timestamp r n
@@ -100,7 +100,7 @@ later_further g h =
     }
 
 -- GET
-pub get_keeps : (p : Partition) (g : Get) → entry g.snapshot 1 ≤ 2 ^ 62 → PartitionOk p → PartitionOk (get me p g)
+pub get_keeps : (p : Partition) (g : Get) → entry g.snapshot 1 ≤ 2 ^ 62 → PartitionOk p → PartitionOk (parked_with me p g)
 get_keeps p g small h =
     record {
       once = h.once;
@@ -110,7 +110,7 @@ get_keeps p g small h =
       received = h.received;
     }
 
-pub get_later : (p : Partition) (g : Get) → PartitionOk p → Later p (get me p g)
+pub get_later : (p : Partition) (g : Get) → PartitionOk p → Later p (parked_with me p g)
 get_later p g h =
     later_same _ _ (own_known-above _ _ p.prepared (omega (arith, own_known-clock p.clock p.prepared h.below_clock))
     (λ q i. own_known-below _ _ q i (h.positive q i))) refl refl

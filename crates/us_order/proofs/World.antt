@@ -25,7 +25,8 @@ use Rattle.std.specs.List.{range_with_len}
 use Rattle.us_model.specs.declared.settings.Settings.{Settings}
 use Rattle.us_model.specs.State.{Coordinator, Partition, Shard, Site, Spaces}
 use Rattle.us_history.specs.Histories.{no_history}
-use Rattle.us_model.specs.Partitions.{known, get, may_prepare, prepared as prepared_here, timestamp_for, committed, commit, versions}
+use Rattle.us_model.specs.declared.partition.Get.{Get}
+use Rattle.us_model.specs.Partitions.{known, parked_with, may_get, may_prepare, prepared as prepared_here, timestamp_for, committed, commit, versions}
 use Rattle.us_model.specs.Sessions.{SessionStep, bytes, close, version, prepared, run_session}
 use Rattle.us_model.specs.Coordinators.{each_session, context_of, is_over, new_session}
 use Rattle.us_model.specs.Sites.{ActorStep, view_of, all_sessions, with_partition, opens_one, opens_none, answer_to, take_message, is_for}
@@ -160,15 +161,15 @@ refused_open_keeps : (spaces : Spaces) (b : Ledger) (coord : ℕ) (shape : Shape
 refused_open_keeps spaces b coord shape w h = record { ledger = h.ledger; seq = h.seq; messages = h.messages; history = h.history; facts = h.facts }
 
 -- A PACKET
-prepares_keeps : (spaces : Spaces) (b : Ledger) (from : Actor) (w : ActorStep) (tid : Tid) (sn : List ℕ) (ws : List Write) → (h : Good spaces b w)
-    → In (message.Prepare tid sn ws) h.ledger.messages → may_prepare me w.shard.partition tid sn ≡ true
+prepares_keeps : (spaces : Spaces) (b : Ledger) (parts : ℕ) (from : Actor) (w : ActorStep) (tid : Tid) (sn : List ℕ) (ws : List Write)
+    → (h : Good spaces b w) → In (message.Prepare tid sn ws) h.ledger.messages → may_prepare parts me w.shard.partition tid sn ws ≡ true
     → Good spaces b (with_partition w (prepared_here me w.shard.partition tid sn ws)
     (answer_to me from (message.Prepared tid (timestamp_for me w.shard.partition sn)) ∷ []))
-prepares_keeps spaces b from w tid sn ws h i may =
+prepares_keeps spaces b parts from w tid sn ws h i may =
     let p = w.shard.partition in
     let f = and_parts _ _ may in
     let fresh = not-true _ f.0 in
-    let small = leb-true (timestamp_for me p sn) (2 ^ 62) f.1 in
+    let small = leb-true (timestamp_for me p sn) (2 ^ 62) (and_parts _ _ f.1).1 in
     moves_keeps spaces b w (prepared_here me p tid sn ws) (answer_to me from (message.Prepared tid (timestamp_for me p sn)) ∷ []) h
     (prepare_moves spaces p h.ledger tid sn ws small fresh h.facts.part i)
     (prepare_all spaces p h.ledger tid (timestamp_for me p sn) h.facts.part h.facts.all fresh)
@@ -193,15 +194,17 @@ commit_keeps spaces b w tid v h asked =
 take_message_keeps : (spaces : Spaces) (b : Ledger) (shape : Shape) → shape.parts ≡ 1 → (from : Actor) (w : ActorStep) (m : Message)
     → (h : Good spaces b w) → In m h.ledger.messages → Good spaces b (take_message me shape from w m)
 take_message_keeps spaces b shape one from w (message.Get tid place at sn item op own) h i =
-    silent_keeps spaces b w (get me w.shard.partition (record
-    { from = from.actor; tid = tid; place = place; at = at; snapshot = sn; item = item; op = op; own = own })) h
-    (get_moves spaces w.shard.partition h.ledger (record
-    { from = from.actor; tid = tid; place = place; at = at; snapshot = sn; item = item; op = op; own = own }) h.facts.part h.facts.all i)
+    let g : Get = record { from = from.actor; tid = tid; place = place; at = at; snapshot = sn; item = item; op = op; own = own } in
+    cond_both (may_get shape.parts me w.shard.partition g) (parked_with me w.shard.partition g) w.shard.partition
+    (λ p'. Good spaces b (with_partition w p' []))
+    (λ _. silent_keeps spaces b w (parked_with me w.shard.partition g) h (get_moves spaces w.shard.partition h.ledger g h.facts.part h.facts.all i))
+    (λ _. unmoved spaces b w h)
 take_message_keeps spaces b shape one from w (message.Version v) h i =
     all_keeps spaces b shape one (version v) (λ ms. In (message.Version v) ms) (λ ms ms' g q. in_later _ g q) w
     (λ l d s q st f. version_keeps spaces b w.shard.partition v l d s q st f) h i
 take_message_keeps spaces b shape one from w (message.Prepare tid sn ws) h i =
-    cond_both (may_prepare me w.shard.partition tid sn) _ _ (Good spaces b) (λ e. prepares_keeps spaces b from w tid sn ws h i e) (λ _. h)
+    cond_both (may_prepare shape.parts me w.shard.partition tid sn ws) _ _ (Good spaces b)
+    (λ e. prepares_keeps spaces b shape.parts from w tid sn ws h i e) (λ _. h)
 take_message_keeps spaces b shape one from w (message.Prepared tid ts) h i =
     all_keeps spaces b shape one (prepared from.actor tid ts) (λ ms. In (message.Prepared tid ts) ms) (λ ms ms' g q. in_later _ g q) w
     (λ l d s q st f. prepared_keeps spaces b w.shard.partition from.actor tid ts l d s q st f) h i
