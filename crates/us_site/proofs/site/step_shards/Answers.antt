@@ -1,4 +1,4 @@
-use Rattle.std.proofs.Common.{◌≡◌, ℕ, ◌<◌, ◌+◌, ◌-◌, length, arith, sym}
+use Rattle.std.proofs.Common.{◌-◌, arith}
 use Rattle.us_site.proofs.Standing.{stands, stepped_site, stepped_out, stepped_places}
 use Rattle.us_site.proofs.site.step_shards.Goals as goal
 

@@ -1,4 +1,4 @@
-use Rattle.std.proofs.Common.{◌∙◌, ap, sym, subst, length}
+use Rattle.std.proofs.Common.{◌∙◌, ap, sym, subst}
 use Rattle.us_base.specs.Shape.{IsShape}
 use Rattle.us_model.specs.declared.settings.Settings.{Settings}
 use Rattle.us_site.specs.Shards.{AreAt}
