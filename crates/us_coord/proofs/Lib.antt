@@ -1,7 +1,3 @@
-pub mod Written
-pub mod Posts
+pub mod Acts
 pub mod EachSession
-pub mod Lengths
 pub mod Loops
-pub mod Encoded
-pub mod Turns

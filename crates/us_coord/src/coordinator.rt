@@ -1,12 +1,10 @@
 //! A coordinator and its sessions.
-ghost use Rattle.std.specs.Prelude.{◌≡◌, ◌<◌, ◌++◌, not, IfOk, OnOk};
+ghost use Rattle.std.specs.Prelude.{◌≡◌, ◌<◌, ◌++◌, not, IfOk, IsTrue, OnOk};
 ghost use Rattle.us_base.specs.Shape.{IsShape};
 ghost use Rattle.us_model.specs.Sessions.{bytes, close, version, prepared, run_session};
 ghost use Rattle.us_model.specs.Coordinators.{new_coordinator, each_acts, new_session, opened, refused_open, is_over, remembered, open_in, waits_in};
 ghost use Rattle.us_coord.specs.Steps.{acts};
 
-use crate::codec::encoded;
-use crate::session::{new_stream, waits_for_nothing};
 use crate::turn::{Turn, each};
 use crate::waits::put_waits_in;
 use std::alloc::Global;
@@ -17,6 +15,7 @@ use us_exec::WaitingRequest;
 use us_kind::{Items, Memory, Tid, checked_sum};
 use us_model::{Await, ClientOut, Context, Note, Outputs, Refusal, Session, View, Vote};
 use us_peer_wire::{Actor, Version};
+use us_session::{encoded, new_stream, waits_for_nothing};
 use us_value::Catalog;
 
 /// A coordinator. A call that takes an event takes what the actor has given out so far, and gives it back with what the rule adds.
@@ -219,7 +218,15 @@ fn open_count(sessions: &[Session]) -> usize
     open
 }
 
-/// Refuses to open a session at a site that has as many open ones as it may have.
+/// Whether a configuration may have the shape.
+fn is_shape(shape: Shape) -> bool
+    ensures { IsTrue result → IsShape shape }
+{
+    shape.f <= 4 && 1 <= shape.parts && shape.parts <= 16
+}
+
+/// Refuses to open a session at a site that has as many open ones as it may have. A shape that no configuration has counts
+/// as out of memory: none is met.
 pub fn refuse_open(
     alloc: Global,
     shape: Shape,
@@ -228,6 +235,9 @@ pub fn refuse_open(
 ) -> Result<Outputs, Memory>
     ensures { IfOk result (λ given. given ≡ refused_open coord shape out) }
 {
+    if !is_shape(shape) {
+        return Err(Memory);
+    }
     let reply = Reply::Refused {
         at: 0,
         number: Refusal::TooManySessions.number(),

@@ -1,16 +1,15 @@
 //! The sessions of a coordinator take an event in turn.
 ghost use Rattle.std.specs.Prelude.{◌≡◌, ◌<◌, OnOk};
 ghost use Rattle.us_base.specs.Shape.{IsShape};
+ghost use Rattle.us_model.specs.Sessions.{stays};
 ghost use Rattle.us_model.specs.Coordinators.{each_session};
 ghost use Rattle.us_coord.specs.Steps.{acts};
 
-use crate::answer::{take_prepared, take_version};
-use crate::running::run;
-use crate::stream::{close, take_bytes};
 use std::alloc::Global;
 use us_kind::{Memory, Tid};
 use us_model::{Context, Session, Vote};
 use us_peer_wire::Version;
+use us_session::{close, run, take_bytes, take_prepared, take_version};
 use us_value::Catalog;
 
 /// What each session is asked to do: the bytes, the version and the timestamp concern one of them at most.
@@ -45,8 +44,7 @@ fn act(
 ) -> Result<(), Memory>
     requires site { context.old.me.site < 10 }
     requires shape { IsShape context.old.shape }
-    ensures context { OnOk result (context.new ≡ (acts turn.now context.old session.old).context) }
-    ensures session { OnOk result (session.new ≡ (acts turn.now context.old session.old).session) }
+    ensures { OnOk result (stays context.new session.new ≡ acts turn.now context.old session.old) }
 {
     match turn {
         Turn::Bytes {

@@ -108,7 +108,7 @@ fn record_operation(
     requires { IsShape context.old.shape }
     ensures { OnOk result (stays context.new session.new ≡ stays
         (with_note (tell context.old session.old (Reply.Answered asked.now.at answer.now))
-            (Note.Performed transaction.tid (record { item = asked.now.item; op = asked.now.op; answer = answer.now })))
+        (Note.Performed transaction.tid (record { item = asked.now.item; op = asked.now.op; answer = answer.now })))
         (record session.old {
           running = Some (record transaction {
             ops = transaction.ops ++ record { item = asked.now.item; op = asked.now.op; answer = answer.now } ∷ [];
