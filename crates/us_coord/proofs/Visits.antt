@@ -1,9 +1,9 @@
 -- The turn of one session, where the rule changes nothing at the others.
-use Rattle.std.proofs.Common.{◌≡◌, ⊥, ℕ, zero, suc, ◌+◌, ◌<◌, ◌≤◌, List, [], ◌∷◌, ◌++◌, length, get_or, Bool, true, false, refl, sym, ap, ◌∙◌, arith}
+use Rattle.std.proofs.Common.{◌≡◌, ℕ, zero, suc, ◌+◌, ◌<◌, ◌≤◌, List, [], ◌∷◌, ◌++◌, length, get_or, Bool, true, false, refl, sym, ap, ◌∙◌, arith}
 use Rattle.std.proofs.Common.{subst}
 use Rattle.std.specs.Prelude.{cond, not, nat_lt, slice_set, remove}
 use Rattle.std.specs.List.{AllWithin}
-use Rattle.std.proofs.lemmas.Bool.Decides.{nat_tests}
+use Rattle.std.proofs.lemmas.Bool.{ltb-true, ltb-false}
 use Rattle.us_kind.specs.Updates.{All}
 use Rattle.us_model.specs.declared.coordinator.Session.{Session}
 use Rattle.us_model.specs.declared.coordinator.Context.{Context}
@@ -29,7 +29,8 @@ in_order_set low high (x ∷ ss) zero s at left h =
 in_order_set low high (x ∷ ss) (suc i) s at left h = (h.0, (h.1.0, in_order_set x.number high ss i s (omega (arith, at.0), at.1) left h.1.1))
 
 pub in_order_remove : (low high : ℕ) (ss : List Session) (i : ℕ) → InOrder low ss high → InOrder low (remove ss i) high
-in_order_remove low high [] i h = h
+in_order_remove low high [] zero h = h
+in_order_remove low high [] (suc i) h = h
 in_order_remove low high (x ∷ ss) zero h = in_order_weaken x.number low high ss (omega (arith, h.0)) h.1.1
 in_order_remove low high (x ∷ ss) (suc i) h = (h.0, (h.1.0, in_order_remove x.number high ss i h.1.1))
 
@@ -51,17 +52,14 @@ pub in_order_each : (f : Context → Session → SessionStep) → ((d : Context)
     → InOrder low ss high
     → InOrder low (remembered (each_session f d ss).sessions) high
 in_order_each f same low high d [] h = h
-in_order_each f same low high d (s ∷ ss) h = on (is_over (f d s).session) refl
+in_order_each f same low high d (s ∷ ss) h = on (is_over (f d s).session) refl (in_order_each f same s.number high (f d s).context ss h.1.1)
   where
     rest : List Session
     rest = remembered (each_session f (f d s).context ss).sessions
 
-    kept : InOrder s.number rest high
-    kept = in_order_each f same s.number high (f d s).context ss h.1.1
-
-    on : (b : Bool) → is_over (f d s).session ≡ b → InOrder low (cond (not b) ((f d s).session ∷ rest) rest) high
-    on true e = in_order_weaken s.number low high rest (omega (arith, h.0)) kept
-    on false e = (subst (λ n. low < n) (sym (same d s)) h.0, (e, subst (λ n. InOrder n rest high) (sym (same d s)) kept))
+    on : (b : Bool) → is_over (f d s).session ≡ b → InOrder s.number rest high → InOrder low (cond (not b) ((f d s).session ∷ rest) rest) high
+    on true e kept = in_order_weaken s.number low high rest (omega (arith, h.0)) kept
+    on false e kept = (subst (λ n. low < n) (sym (same d s)) h.0, (e, subst (λ n. InOrder n rest high) (sym (same d s)) kept))
 
 -- NONE IS FORGOTTEN
 pub remembered_same : (low high : ℕ) (ss : List Session) → InOrder low ss high → remembered ss ≡ ss
@@ -101,11 +99,11 @@ absent_at low high n [] i h front back other = tt
 absent_at low high n (s ∷ ss) zero h front back other =
     let at_least = back 0 s (omega arith) (omega arith) in
     let no = other s (omega arith) in
-    let above : n ≤ s.number = omega (nat_tests, arith, at_least) in
+    let above : n ≤ s.number = ltb-false _ _ at_least in
     (no, above_absent s.number high n ss above h.1.1)
 absent_at low high n (s ∷ ss) (suc i) h front back other =
     let below = front 0 s (omega arith) (omega arith) in
-    let less : s.number < n = omega (nat_tests, arith, below) in
+    let less : s.number < n = ltb-true _ _ below in
     (λ e. omega (arith, e, less),
         absent_at s.number high n ss i h.1.1 (λ k d low' high'. front (suc k) d (omega arith) (omega arith))
         (λ k d low' high'. back (suc k) d (omega arith) (omega arith)) (λ d less'. other d (omega (arith, less'))))
