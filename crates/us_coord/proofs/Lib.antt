@@ -1,4 +1,5 @@
 pub mod Acts
+pub mod Concerned
 pub mod EachSession
 pub mod Loops
 pub mod Numbers
