@@ -1,7 +1,7 @@
 -- Which session an event concerns.
 use Rattle.std.proofs.Common.{◌≡◌, ℕ, List, [], ◌∷◌, Bool, true, false, ◌&&◌, refl, ap}
 use Rattle.std.specs.Prelude.{if◌then◌else◌, not, ◌==◌}
-use Rattle.std.proofs.lemmas.Bool.{eqb-neq}
+use Rattle.std.proofs.lemmas.Bool.{ne_eqb}
 use Rattle.us_kind.specs.Updates.{All}
 use Rattle.us_model.specs.State.{Spaces}
 use Rattle.us_wire.specs.Frames.{fed}
@@ -17,13 +17,13 @@ all_of P h (x ∷ xs) = (h x, all_of P h xs)
 
 close_other : (number : ℕ) (s : Session) → (s.number ≡ number → ⊥) → (d : Context) → close number d s ≡ stays d s
 unfolding close
-close_other number s other d = ap (λ b. if b && not s.closed then closes_in d s s.waits else stays d s) (eqb-neq _ _ other)
+close_other number s other d = ap (λ b. if b && not s.closed then closes_in d s s.waits else stays d s) (ne_eqb _ _ other)
 
 bytes_other : (spaces : Spaces) (number : ℕ) (piece : List ℕ) (s : Session) → (s.number ≡ number → ⊥) → (d : Context)
     → bytes spaces number piece d s ≡ stays d s
 unfolding bytes
 bytes_other spaces number piece s other d =
-    ap (λ b. if b && not s.closed then read_on spaces d s (fed s.stream piece) else stays d s) (eqb-neq _ _ other)
+    ap (λ b. if b && not s.closed then read_on spaces d s (fed s.stream piece) else stays d s) (ne_eqb _ _ other)
 
 pub close_concerns : (number : ℕ) (ss : List Session) → Concerns (close number) number ss
 close_concerns number ss = all_of (λ s. (s.number ≡ number → ⊥) → (d : Context) → close number d s ≡ stays d s) (close_other number) ss

@@ -3,7 +3,9 @@ use Rattle.std.proofs.Common.{◌≡◌, ℕ, zero, suc, ◌+◌, ◌<◌, ◌�
 use Rattle.std.proofs.Common.{subst}
 use Rattle.std.specs.Prelude.{cond, not, nat_lt, slice_set, remove}
 use Rattle.std.specs.List.{AllWithin}
-use Rattle.std.proofs.lemmas.Bool.{ltb-true, ltb-false}
+use Rattle.std.specs.List.Sorted.{IsPartitionedBy}
+use Rattle.std.proofs.lemmas.Bool.{ltb-true, ltb-false, lt-ltb}
+use Rattle.std.proofs.lemmas.List.{get_or_default}
 use Rattle.us_kind.specs.Updates.{All}
 use Rattle.us_model.specs.declared.coordinator.Session.{Session}
 use Rattle.us_model.specs.declared.coordinator.Context.{Context}
@@ -122,6 +124,21 @@ number_above low high (s ∷ ss) (suc i) d less h =
     let more = number_above s.number high ss i d (omega (arith, less)) h.1.1 in
     omega (arith, more, h.0)
 
+-- those with smaller numbers stand first
+pub in_order_parted : (low high n : ℕ) (ss : List Session) → InOrder low ss high → IsPartitionedBy (λ s. nat_lt s.number n) ss
+in_order_parted low high n ss h i j d le less pass = at low ss i j le less h pass
+  where
+    at : (low : ℕ) (ss : List Session) (i j : ℕ) → i ≤ j → j < length ss → InOrder low ss high → nat_lt (get_or ss j d).number n ≡ true
+        → nat_lt (get_or ss i d).number n ≡ true
+    at low [] i j le less h pass = absurd (omega (arith, less))
+    at low (s ∷ ss) zero zero le less h pass = pass
+    at low (s ∷ ss) zero (suc j) le less h pass =
+        let more = number_above s.number high ss j d (omega (arith, less)) h.1.1 in
+        let below = ltb-true _ _ pass in
+        lt-ltb _ _ (omega (arith, more, below))
+    at low (s ∷ ss) (suc i) zero le less h pass = absurd (omega (arith, le))
+    at low (s ∷ ss) (suc i) (suc j) le less h pass = at s.number ss i j (omega (arith, le)) (omega (arith, less)) h.1.1 pass
+
 -- ELSE ONLY THAT SESSION HAS ITS TURN
 pub each_at : (f : Context → Session → SessionStep) (d : Context) (n low high : ℕ) (ss : List Session) (i : ℕ) (s : Session) → StandsAt n ss i
     → s ≡ get_or ss i s
@@ -162,3 +179,35 @@ present_acts f v c out n low high i s h at is quiet =
     ap (with_sessions c) (each_at f d n low high c.sessions i s at is h quiet)
     ∙ ap (λ ss. record { coordinator = record c { seq = (f d s).context.seq; sessions = ss }; out = (f d s).context.out })
     (remembered_set low high c.sessions i (f d s).session at.0 h)
+
+-- what the turn of the session at a place gives out, and the sessions after it
+pub record TurnAt (f : Context → Session → SessionStep) (d : Context) (ss : List Session) (i : ℕ) (d' : Context) (ss' : List Session) : Type 0 where
+  pub context : (s : Session) → s ≡ get_or ss i s → d' ≡ (f d s).context
+  pub sessions : (s : Session) → s ≡ get_or ss i s → ss' ≡ put_back ss i (f d s).session
+
+pub turn_acts : (f : Context → Session → SessionStep) (v : View) (c : Coordinator) (out : Outputs) (n i : ℕ) (d' : Context) (ss' : List Session)
+    → InOrder 0 c.sessions c.opens
+    → StandsAt n c.sessions i
+    → Concerns f n c.sessions
+    → TurnAt f (context_of v c out) c.sessions i d' ss'
+    → record { coordinator = record c { seq = d'.seq; sessions = ss' }; out = d'.out } ≡ each_acts f v c out
+turn_acts f v c out n i d' ss' h at quiet turn =
+    let s = get_or c.sessions i (new_session 0) in
+    let is : s ≡ get_or c.sessions i s = get_or_default c.sessions i (new_session 0) s at.0 in
+    let context = turn.context s is in
+    let sessions = turn.sessions s is in
+    (λ j. record { coordinator = record c { seq = (context j).seq; sessions = sessions j }; out = (context j).out })
+    ∙ sym (present_acts f v c out n 0 c.opens i s h at is quiet)
+
+pub turn_in_order : (f : Context → Session → SessionStep) → ((d : Context) (s : Session) → (f d s).session.number ≡ s.number) → (high n i : ℕ) (d d' : Context)
+    (ss ss' : List Session)
+    → InOrder 0 ss high
+    → StandsAt n ss i
+    → TurnAt f d ss i d' ss'
+    → InOrder 0 ss' high
+turn_in_order f same high n i d d' ss ss' h at turn =
+    let s = get_or ss i (new_session 0) in
+    let is : s ≡ get_or ss i s = get_or_default ss i (new_session 0) s at.0 in
+    let number : n ≡ (f d s).session.number = sym (at.1 (new_session 0)) ∙ sym (same d s) in
+    subst (λ xs. InOrder 0 xs high) (sym (turn.sessions s is))
+    (in_order_put_back 0 high ss i (f d s).session (subst (λ m. StandsAt m ss i) number at) h)
