@@ -2,7 +2,7 @@
 ghost use Rattle.std.specs.Prelude.{◌≡◌, ◌<◌, ◌++◌, not, nat_lt, None, IfOk, IfSome, IsTrue, OnOk};
 ghost use Rattle.us_base.specs.Shape.{IsShape};
 ghost use Rattle.us_model.specs.Sessions.{bytes, close, version, prepared, run_session};
-ghost use Rattle.us_model.specs.Coordinators.{new_coordinator, each_acts, new_session, opened, refused_open, is_over, remembered, open_in, waits_in};
+ghost use Rattle.us_model.specs.Coordinators.{new_coordinator, each_acts, each_session, new_session, opened, refused_open, is_over, remembered, open_in, waits_in};
 ghost use Rattle.us_coord.specs.Order.{StandsAt, Absent, Concerns};
 ghost use Rattle.us_coord.specs.Steps.{acts};
 
@@ -81,8 +81,7 @@ impl Coordinator {
     {
         let mut context = context_of(view, self.seq, out);
         let mut sessions = mem::replace(&mut self.sessions, Vec::new(alloc));
-        each(alloc, &mut context, sessions.as_mut_slice(), turn)?;
-        forget(&mut sessions);
+        all(alloc, &mut context, &mut sessions, turn)?;
         self.sessions = sessions;
         self.seq = context.seq;
         Ok(context.out)
@@ -260,6 +259,23 @@ fn is_remembered(session: &Session) -> bool
     ensures { result ≡ not (is_over session.now) }
 {
     !is_over(session)
+}
+
+/// Each session's turn. Those that are over then are forgotten.
+fn all(
+    alloc: Global,
+    context: &mut Context,
+    sessions: &mut Vec<Session>,
+    turn: &Turn<'_>,
+) -> Result<(), Memory>
+    requires site { context.old.me.site < 10 }
+    requires shape { IsShape context.old.shape }
+    ensures context { OnOk result (context.new ≡ (each_session (acts turn.now) context.old sessions.old.items).context) }
+    ensures sessions { OnOk result (sessions.new.items ≡ remembered (each_session (acts turn.now) context.old sessions.old.items).sessions) }
+{
+    each(alloc, context, sessions.as_mut_slice(), turn)?;
+    forget(sessions);
+    Ok(())
 }
 
 /// Forgets the sessions that are over.
