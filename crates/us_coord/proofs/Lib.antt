@@ -1,7 +1,6 @@
-pub mod Written
-pub mod Posts
+pub mod Acts
+pub mod Concerned
 pub mod EachSession
-pub mod Lengths
 pub mod Loops
-pub mod Encoded
-pub mod Turns
+pub mod Numbers
+pub mod Visits

@@ -1,22 +1,23 @@
 //! A coordinator and its sessions.
-ghost use Rattle.std.specs.Prelude.{◌≡◌, ◌<◌, ◌++◌, not, IfOk, OnOk};
+ghost use Rattle.std.specs.Prelude.{◌≡◌, ◌<◌, ◌++◌, not, nat_lt, None, IfOk, IfSome, IsTrue, OnOk};
 ghost use Rattle.us_base.specs.Shape.{IsShape};
 ghost use Rattle.us_model.specs.Sessions.{bytes, close, version, prepared, run_session};
-ghost use Rattle.us_model.specs.Coordinators.{new_coordinator, each_acts, new_session, opened, refused_open, is_over, remembered, open_in, waits_in};
+ghost use Rattle.us_model.specs.Coordinators.{new_coordinator, each_acts, each_session, new_session, opened, refused_open, is_over, remembered, open_in, waits_in};
+ghost use Rattle.us_coord.specs.Order.{StandsAt, Absent, Concerns};
 ghost use Rattle.us_coord.specs.Steps.{acts};
 
-use crate::codec::encoded;
-use crate::session::{new_stream, waits_for_nothing};
-use crate::turn::{Turn, each};
+use crate::turn::{Turn, each, is_over, one};
 use crate::waits::put_waits_in;
 use std::alloc::Global;
 use std::marker::Model;
+use std::mem;
 use us_base::{Shape, Vector};
 use us_client_wire::Reply;
 use us_exec::WaitingRequest;
 use us_kind::{Items, Memory, Tid, checked_sum};
 use us_model::{Await, ClientOut, Context, Note, Outputs, Refusal, Session, View, Vote};
 use us_peer_wire::{Actor, Version};
+use us_session::{encoded, new_stream};
 use us_value::Catalog;
 
 /// A coordinator. A call that takes an event takes what the actor has given out so far, and gives it back with what the rule adds.
@@ -29,10 +30,13 @@ pub struct Coordinator {
 
 impl Model for Coordinator {
     ghost use Rattle.us_model.specs.State.{Coordinator};
+    ghost use Rattle.us_coord.specs.Order.{InOrder};
 
     ghost Value = { Coordinator };
 
     ghost view = { λ a. record { seq = a.seq; opens = a.opens; sessions = a.sessions.items } };
+
+    ghost invariant = { λ a. InOrder 0 a.sessions.items a.opens };
 }
 
 impl Coordinator {
@@ -75,20 +79,57 @@ impl Coordinator {
         ensures coordinator { OnOk result (self.new ≡ (each_acts (acts turn.now) view.now self.old out).coordinator) }
         ensures out { IfOk result (λ given. given ≡ (each_acts (acts turn.now) view.now self.old out).out) }
     {
-        let mut context = Context {
-            me: view.me,
-            shape: view.shape,
-            base: view.base,
-            seq: self.seq,
-            out,
+        let mut context = context_of(view, self.seq, out);
+        let mut sessions = mem::replace(&mut self.sessions, Vec::new(alloc));
+        all(alloc, &mut context, &mut sessions, turn)?;
+        self.sessions = sessions;
+        self.seq = context.seq;
+        Ok(context.out)
+    }
+
+    /// Where the session of this number stands, if it is remembered.
+    fn place_of(&self, number: u64) -> Option<usize>
+        ensures found { IfSome result (λ place. StandsAt number self.now.sessions place) }
+        ensures absent { result ≡ None → Absent number self.now.sessions }
+    {
+        let place = self
+            .sessions
+            .as_slice()
+            .partition_point(|session| is_below(session, number));
+        if place < self.sessions.len() && self.sessions[place].number == number {
+            return Some(place);
+        }
+        None
+    }
+
+    /// The turn of the session of this number, which is the only one that the event concerns.
+    fn turn_of(
+        &mut self,
+        alloc: Global,
+        view: &View,
+        number: u64,
+        turn: &Turn<'_>,
+        out: Outputs,
+    ) -> Result<Outputs, Memory>
+        requires site { view.now.me.site < 10 }
+        requires shape { IsShape view.now.shape }
+        requires concerns { Concerns (acts turn.now) number self.old.sessions }
+        ensures coordinator { OnOk result (self.new ≡ (each_acts (acts turn.now) view.now self.old out).coordinator) }
+        ensures out { IfOk result (λ given. given ≡ (each_acts (acts turn.now) view.now self.old out).out) }
+    {
+        let Some(place) = self.place_of(number) else {
+            return Ok(out);
         };
-        each(alloc, &mut context, self.sessions.as_mut_slice(), turn)?;
-        forget(&mut self.sessions);
+        let mut context = context_of(view, self.seq, out);
+        let mut sessions = mem::replace(&mut self.sessions, Vec::new(alloc));
+        one(alloc, &mut context, &mut sessions, place, turn)?;
+        self.sessions = sessions;
         self.seq = context.seq;
         Ok(context.out)
     }
 
     /// A client's bytes come to the session of this number, if it is open.
+    #[tactic(auto, using(crate::proofs::Concerned::bytes_concerns))]
     pub fn bytes(
         &mut self,
         alloc: Global,
@@ -108,10 +149,11 @@ impl Coordinator {
             number: session,
             piece,
         };
-        self.turn(alloc, view, &turn, out)
+        self.turn_of(alloc, view, session, &turn, out)
     }
 
     /// The client closes the session of this number, if it is open.
+    #[tactic(auto, using(crate::proofs::Concerned::close_concerns))]
     pub fn close(
         &mut self,
         alloc: Global,
@@ -124,7 +166,8 @@ impl Coordinator {
         ensures coordinator { OnOk result (self.new ≡ (each_acts (close session) view.now self.old out).coordinator) }
         ensures out { IfOk result (λ given. given ≡ (each_acts (close session) view.now self.old out).out) }
     {
-        self.turn(alloc, view, &Turn::Close { number: session }, out)
+        let turn = Turn::Close { number: session };
+        self.turn_of(alloc, view, session, &turn, out)
     }
 
     /// The version for which an operation waits comes. One that nobody awaits changes nothing.
@@ -191,11 +234,48 @@ impl Coordinator {
     }
 }
 
+/// What the actor, the coordinator and what was given out so far make.
+fn context_of(view: &View, seq: u64, out: Outputs) -> Context
+    ensures { result ≡ record { me = view.now.me; shape = view.now.shape; base = view.now.base; seq = seq; out = out } }
+{
+    Context {
+        me: view.me,
+        shape: view.shape,
+        base: view.base,
+        seq,
+        out,
+    }
+}
+
+/// Whether the session's number is smaller.
+fn is_below(session: &Session, number: u64) -> bool
+    ensures { result ≡ nat_lt session.now.number number }
+{
+    session.number < number
+}
+
 /// Whether the session isn't over: it is open or still commits.
 fn is_remembered(session: &Session) -> bool
     ensures { result ≡ not (is_over session.now) }
 {
-    !session.closed || !waits_for_nothing(session)
+    !is_over(session)
+}
+
+/// Each session's turn. Those that are over then are forgotten.
+fn all(
+    alloc: Global,
+    context: &mut Context,
+    sessions: &mut Vec<Session>,
+    turn: &Turn<'_>,
+) -> Result<(), Memory>
+    requires site { context.old.me.site < 10 }
+    requires shape { IsShape context.old.shape }
+    ensures context { OnOk result (context.new ≡ (each_session (acts turn.now) context.old sessions.old.items).context) }
+    ensures sessions { OnOk result (sessions.new.items ≡ remembered (each_session (acts turn.now) context.old sessions.old.items).sessions) }
+{
+    each(alloc, context, sessions.as_mut_slice(), turn)?;
+    forget(sessions);
+    Ok(())
 }
 
 /// Forgets the sessions that are over.
@@ -219,7 +299,15 @@ fn open_count(sessions: &[Session]) -> usize
     open
 }
 
-/// Refuses to open a session at a site that has as many open ones as it may have.
+/// Whether a configuration may have the shape.
+fn is_shape(shape: Shape) -> bool
+    ensures { IsTrue result → IsShape shape }
+{
+    shape.f <= 4 && 1 <= shape.parts && shape.parts <= 16
+}
+
+/// Refuses to open a session at a site that has as many open ones as it may have. A shape that no configuration has counts
+/// as out of memory: none is met.
 pub fn refuse_open(
     alloc: Global,
     shape: Shape,
@@ -228,6 +316,9 @@ pub fn refuse_open(
 ) -> Result<Outputs, Memory>
     ensures { IfOk result (λ given. given ≡ refused_open coord shape out) }
 {
+    if !is_shape(shape) {
+        return Err(Memory);
+    }
     let reply = Reply::Refused {
         at: 0,
         number: Refusal::TooManySessions.number(),

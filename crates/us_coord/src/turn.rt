@@ -1,16 +1,17 @@
 //! The sessions of a coordinator take an event in turn.
-ghost use Rattle.std.specs.Prelude.{◌≡◌, ◌<◌, OnOk};
+ghost use Rattle.std.specs.Prelude.{◌≡◌, ◌<◌, OnOk, length, slice_index_or};
 ghost use Rattle.us_base.specs.Shape.{IsShape};
-ghost use Rattle.us_model.specs.Coordinators.{each_session};
+ghost use Rattle.us_model.specs.Sessions.{stays};
+ghost use Rattle.us_model.specs.declared.coordinator.Session.{Session};
+ghost use Rattle.us_model.specs.Coordinators.{each_session, is_over};
+ghost use Rattle.us_coord.specs.Order.{put_back};
 ghost use Rattle.us_coord.specs.Steps.{acts};
 
-use crate::answer::{take_prepared, take_version};
-use crate::running::run;
-use crate::stream::{close, take_bytes};
 use std::alloc::Global;
 use us_kind::{Memory, Tid};
 use us_model::{Context, Session, Vote};
 use us_peer_wire::Version;
+use us_session::{close, run, take_bytes, take_prepared, take_version, waits_for_nothing};
 use us_value::Catalog;
 
 /// What each session is asked to do: the bytes, the version and the timestamp concern one of them at most.
@@ -45,8 +46,7 @@ fn act(
 ) -> Result<(), Memory>
     requires site { context.old.me.site < 10 }
     requires shape { IsShape context.old.shape }
-    ensures context { OnOk result (context.new ≡ (acts turn.now context.old session.old).context) }
-    ensures session { OnOk result (session.new ≡ (acts turn.now context.old session.old).session) }
+    ensures { OnOk result (stays context.new session.new ≡ acts turn.now context.old session.old) }
 {
     match turn {
         Turn::Bytes {
@@ -75,6 +75,35 @@ pub fn each(
 {
     for i in 0..sessions.len() {
         act(alloc, context, &mut sessions[i], turn)?;
+    }
+    Ok(())
+}
+
+/// Whether the session is over: it is closed and commits nothing.
+pub fn is_over(session: &Session) -> bool
+    ensures { result ≡ is_over session.now }
+{
+    session.closed && waits_for_nothing(session)
+}
+
+/// The turn of the session at this place. It is forgotten where it is over then.
+pub fn one(
+    alloc: Global,
+    context: &mut Context,
+    sessions: &mut Vec<Session>,
+    place: usize,
+    turn: &Turn<'_>,
+) -> Result<(), Memory>
+    requires site { context.old.me.site < 10 }
+    requires shape { IsShape context.old.shape }
+    requires place { place < length sessions.old.items }
+    ensures context { OnOk result ((s : Session) → s ≡ slice_index_or sessions.old.items place s → context.new ≡ (acts turn.now context.old s).context) }
+    ensures sessions { OnOk result ((s : Session) → s ≡ slice_index_or sessions.old.items place s
+        → sessions.new.items ≡ put_back sessions.old.items place (acts turn.now context.old s).session) }
+{
+    act(alloc, context, &mut sessions[place], turn)?;
+    if is_over(&sessions[place]) {
+        sessions.remove(place);
     }
     Ok(())
 }

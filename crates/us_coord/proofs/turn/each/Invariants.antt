@@ -1,7 +1,7 @@
 use Rattle.std.proofs.Common.{◌≡◌, ◌++◌, take, drop}
 use Rattle.us_model.specs.Coordinators.{each_session}
 use Rattle.us_coord.specs.Steps.{acts}
-use Rattle.us_coord.proofs.Posts.{post}
+use Rattle.us_session.proofs.Posts.{post}
 use Rattle.us_coord.proofs.turn.each.Given as goal
 
 -- the sessions that had their turn, and what the turns of the rest make, are what all turns make, in one context

@@ -1,0 +1,5 @@
+pub mod Written
+pub mod Posts
+pub mod Lengths
+pub mod Fitting
+pub mod Turns
