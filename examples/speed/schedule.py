@@ -5,7 +5,8 @@
     time crates/unistore/out/unistore replay short < schedule
 
 Each transaction adds to a counter, adds to a set, writes a register and reads a register, is committed causally, and is
-followed by a flush. A run takes at most 20,000 transactions, 512 sessions and 1,000,000 events.
+followed by a flush: 12 events, of which 11 are deliveries of packets. With --repeats K come then K of the packets that came so
+far once more. A run takes at most 20,000 transactions, 512 sessions and 1,000,000 events.
 """
 
 import argparse
@@ -44,7 +45,13 @@ def transaction(number: int) -> str:
     )
 
 
-def lines(count: int, sessions: bool) -> Iterator[str]:
+# the packets of a transaction: a question and a version for each operation, and three that commit it
+PACKETS = 11
+# a prime: repeats go over all earlier packets
+STRIDE = 7919
+
+
+def lines(count: int, sessions: bool, repeats: int) -> Iterator[str]:
     """The schedule's lines behind the configuration."""
     if not sessions:
         yield "open 1 1"
@@ -54,6 +61,8 @@ def lines(count: int, sessions: bool) -> Iterator[str]:
             yield "open 1 1"
         yield f"bytes 1 1 {session} {transaction(number)}"
         yield "flush 1 1"
+        for again in range(repeats):
+            yield f"deliver {1 + (number * repeats + again) * STRIDE % (PACKETS * (number + 1))}"
         if sessions:
             yield f"close 1 1 {session}"
 
@@ -62,13 +71,14 @@ def main() -> None:
     parser = argparse.ArgumentParser(description=__doc__, formatter_class=argparse.RawDescriptionHelpFormatter)
     parser.add_argument("count", metavar="N", type=int, help="how many transactions there are, at least 1")
     parser.add_argument("--sessions", action="store_true", help="each transaction in a session of its own, closed after it")
+    parser.add_argument("--repeats", metavar="K", type=int, default=0, help="how many earlier packets come again after each transaction")
     options = parser.parse_args()
-    if options.count < 1:
-        parser.error("N is at least 1")
+    if options.count < 1 or options.repeats < 0:
+        parser.error("N is at least 1, K at least 0")
     for kind, number, _ in SPACES:
         print(f'[[space]]\nnumber = {number}\nkind = "{kind}"')
     print("---")
-    for line in lines(options.count, options.sessions):
+    for line in lines(options.count, options.sessions, options.repeats):
         print(line)
 
 

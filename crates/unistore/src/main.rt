@@ -38,5 +38,3 @@ fn main(rt: HostRuntime) -> ExitCode {
 
 #[cfg(test)]
 mod tests;
-#[cfg(test)]
-mod worked_examples;
