@@ -1,4 +1,4 @@
-use Rattle.std.proofs.Common.{◌≡◌, ◌∙◌, ◌<◌, List, Some, sym, ap, subst, refl, length, slice_get}
+use Rattle.std.proofs.Common.{◌≡◌, ◌∙◌, ◌<◌, List, Some, sym, ap, subst, refl, length, slice_get, slice_set, true}
 use Rattle.std.proofs.lemmas.Option.{slice_get-get_or}
 use Rattle.us_network.specs.declared.sent.Sent.{Sent}
 use Rattle.us_network.specs.Packets.{IsDelivered}
@@ -16,6 +16,7 @@ pub returns : goal.returns
 returns c =
     let sent = c.self.inside.sent.items in
     let within : c.args.place < length sent = subst (λ (ss : List Sent). c.args.place < length ss) (sym c.self.view_is) c.requires in
-    subst (λ (ss : List Sent). IsDelivered c.args.place ss _ c.in_ok-packet.packet) c.self.view_is
+    let new = slice_set sent c.args.place (record { packet = c.index_mut.result.now.packet; delivered = true }) in
+    subst (λ (ss : List Sent). IsDelivered c.args.place ss new c.in_ok-packet.packet) c.self.view_is
     (delivered_is sent c.args.place c.index.result.now c.index_mut.result.now c.in_ok-packet.packet within c.index.ensures c.index_mut.ensures.value
     c.in_ok-packet.ensures)
