@@ -132,7 +132,7 @@ reached : (settings : Settings) (lines : List Numbered) (w : World) → IsWorldO
 reached settings lines w h = subst (λ v. RunsTo lines 0 (start settings) (Reaches v)) (sym h.run) (runs_to_world lines 0 (start settings) h.events h.are h.within)
 
 -- lines under some number
-numbered : Line → Numbered
+abbrev numbered : Line → Numbered
 numbered l = record { number = 0; line = l }
 
 numbered-lines : (lines : List Line) → lines_of (map numbered lines) ≡ lines

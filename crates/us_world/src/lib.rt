@@ -2,12 +2,13 @@
 #![tactic(auto)]
 
 mod fault;
-mod outcomes;
+
 mod run;
+mod uniqueness;
 mod world;
 
 pub use fault::{LinesFault, Numbered, WorldFault};
-pub use outcomes::outcomes_are_one;
+pub use uniqueness::outcomes_are_one;
 pub use world::World;
 
 #[cfg(test)]

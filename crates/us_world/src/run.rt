@@ -254,7 +254,7 @@ impl Run {
     /// The packet at this place comes, also one that came before.
     fn deliver_at(&mut self, alloc: Global, place: usize) -> Result<(), WorldFault>
         requires { place < length self.old.sent }
-        ensures deliver_packet { HasCome result place self.old self.new }
+        ensures { HasCome result place self.old self.new }
     {
         let packet = self.network.deliver(place)?;
         self.happen(alloc, packet.to.site, Event::Take { packet })

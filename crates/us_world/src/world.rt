@@ -1,5 +1,5 @@
 //! A world, as its user sees it.
-ghost use Rattle.std.specs.Prelude.{◌≡◌, false, IfOk, IfErr, OnOk};
+ghost use Rattle.std.specs.Prelude.{◌≡◌, ◌++◌, ◌∷◌, [], false, IfOk, IfErr, OnOk};
 ghost use Rattle.us_base.specs.Shape.{IsShape};
 ghost use Rattle.us_exec.specs.Consistency.{IsSound};
 ghost use Rattle.us_model.specs.Worlds.{waits_of};
@@ -38,6 +38,14 @@ impl Model for World {
     ghost invariant = { λ a. StandsUnless a.stopped a.settings a.lines.items a.run };
 }
 
+/// A copy of the line at the end.
+fn add_line(lines: &mut Vec<Line>, line: &Line) -> Result<(), Memory>
+    ensures { OnOk result (lines.new.items ≡ lines.old.items ++ line.now ∷ []) }
+{
+    lines.push(line.copy()?)?;
+    Ok(())
+}
+
 impl World {
     /// The opening world of a store with these settings, in which nothing has happened.
     pub fn new(alloc: Global, settings: &Settings) -> Result<World, Memory>
@@ -64,7 +72,7 @@ impl World {
             return Err(WorldFault::Memory);
         }
         self.stopped = true;
-        self.lines.push(line.copy()?)?;
+        add_line(&mut self.lines, line)?;
         self.run.perform(alloc, line)?;
         self.stopped = false;
         Ok(())

@@ -9,7 +9,7 @@ pub returns-clause-delivered : goal.returns-clause-delivered
 returns-clause-delivered c =
     let number = c.args.number in
     let old = c.args.self.now in
-    let come = c.deliver_at.ensures.deliver_packet in
+    let come = c.deliver_at.ensures in
     let other = c.if-number-eq0.false in
     let next : number ≡ (number - 1) + 1 = omega arith in
     one_goes c.deliver_at.result (IsDelivery number) old (after_delivery (number - 1) come.sent old) c.deliver_at.new.self
@@ -19,7 +19,7 @@ pub returns-clause-stopped : goal.returns-clause-stopped
 returns-clause-stopped c =
     let number = c.args.number in
     let old = c.args.self.now in
-    let come = c.deliver_at.ensures.deliver_packet in
+    let come = c.deliver_at.ensures in
     let other = c.if-number-eq0.false in
     let next : number ≡ (number - 1) + 1 = omega arith in
     one_stops c.deliver_at.result (IsDelivery number) old (after_delivery (number - 1) come.sent old)
