@@ -4,7 +4,7 @@ use Rattle.us_world.specs.declared.fault.Numbered.{Numbered}
 use Rattle.us_world.specs.declared.fault.LinesFault.{LinesFault}
 use Rattle.us_world.specs.Lines.{IsLimitOf}
 use Rattle.unistore.proofs.Turns.{drop-turn}
-use Rattle.unistore.proofs.LinesInTurn.{FrontPerformed, front_more, front_stops, front_all, built_rest}
+use Rattle.unistore.proofs.LinesInTurn.{FrontPerformed, front_none, front_more, front_stops, front_all, built_rest}
 use Rattle.unistore.proofs.performing.reached.Goals as goal
 
 pub returns-in-Err-clause-limit : goal.returns-in-Err-clause-limit
@@ -36,3 +36,9 @@ returns-clause-reached c =
     let nothing_left = drop_all c.loop-line.line-index all c.loop-line-test.false in
     front_all c.args.settings.now all c.loop-line.world
     (subst (λ (ls : List Numbered). FrontPerformed c.args.settings.now all ls c.loop-line.world) nothing_left c.loop-line.invariant.performed)
+
+pub loop-line-init : goal.loop-line-init
+loop-line-init c = record {
+  built = c.requires.built;
+  performed = front_none c.args.settings.now c.args.lines.now c.in_ok-world.world c.in_ok-world.ensures;
+}
