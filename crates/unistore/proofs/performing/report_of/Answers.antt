@@ -1,4 +1,4 @@
-use Rattle.std.proofs.Common.{List, sym, subst}
+use Rattle.std.proofs.Common.{◌≡◌, List, sym, subst}
 use Rattle.us_exec.specs.declared.RefusedRequest.{RefusedRequest}
 use Rattle.us_model.specs.Executions.{refusals_of}
 use Rattle.us_world.specs.Lines.{OfWorld}
