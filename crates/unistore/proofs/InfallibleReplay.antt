@@ -93,7 +93,7 @@ performed short k l (Read script refused) status z y (inl h) =
     map_left (λ e. inr (record { line = h.line; passed = h.passed; pass = h.pass; is = e ∙ sym (ap (λ o. status_of_kind o h.line) h.kind) }))
     (passed h.which h.line k l status z y h.says)
 performed short k l (Read script None) status z y (inr (inl h)) =
-    map_left (λ e. inl (record { world = h.is.is.world; is = h.is.is.reached }, e)) (tells short h.report k l status z y h.tells)
+    map_left (λ e. inl (record { world = h.is.is.world; is = h.is.is.reached; holds = tt }, e)) (tells short h.report k l status z y h.tells)
 performed short k l (Read script (Some refusal)) status z y (inr (inl h)) =
     map_left (λ e. inl (h.world, e)) (refuses refusal k l status z y h.refuses)
 performed short k l (Read script refused) status z y (inr (inr h)) = inr (runs_out k l status h)

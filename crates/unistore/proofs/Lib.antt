@@ -1,4 +1,6 @@
 mod Reading
+pub mod LinesInTurn
+pub mod Turns
 mod Texts
 mod Causes
 mod InfallibleReplay

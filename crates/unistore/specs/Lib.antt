@@ -1,4 +1,5 @@
 pub mod Schedule
+pub mod Performing
 pub mod Report
 pub mod Status
 pub mod Answers

@@ -5,7 +5,8 @@ use Rattle.us_report.specs.declared.report.Report.{Report}
 use Rattle.us_world.specs.declared.fault.LinesFault.{LinesFault}
 use Rattle.us_world.specs.declared.fault.WorldFault.{WorldFault}
 use Rattle.us_world.specs.Limits.{IsPassedAt}
-use Rattle.us_world.specs.Lines.{HaveWorld as LinesHaveWorld, IsLimitOf as IsLimitOfLines, IsReportOf as IsWorldReport}
+use Rattle.us_world.specs.Lines.{HaveWorld as LinesHaveWorld, IsLimitOf as IsLimitOfLines}
+use Rattle.unistore.specs.Performing.{IsReportOf as IsWorldReport}
 use Rattle.unistore.specs.declared.schedule.Script.{Script}
 use Rattle.unistore.specs.Schedule.{settings_of}
 

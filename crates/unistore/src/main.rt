@@ -6,6 +6,7 @@ mod call;
 pub mod edge;
 mod form;
 mod infallible;
+mod performing;
 mod replay;
 mod report;
 mod schedule;

@@ -5,6 +5,7 @@ ghost use Rattle.unistore.specs.Schedule.{schedule_of};
 ghost use Rattle.unistore.specs.Status.{kind_of, input_text, passed_text};
 ghost use Rattle.unistore.specs.declared.schedule.Schedule.TheVariants.{Read};
 
+use crate::performing::perform_lines;
 use crate::report::report_of_script;
 use crate::schedule::{Refusal, Schedule, Script, read_schedule};
 use crate::{LimitKind, Reason, Status};
@@ -13,7 +14,7 @@ use us_base::Limits;
 use us_edge::{Failed, ReadAllFault, Sink, Source, read_all, write_all};
 use us_kind::Memory;
 use us_report::{Report, ReportFault, write_report};
-use us_world::{LinesFault, WorldFault, perform_lines};
+use us_world::{LinesFault, WorldFault};
 
 /// The most bytes of input.
 const MOST_TEXT: usize = Limits::TEXT;

@@ -2,6 +2,7 @@ ghost use Rattle.std.specs.Prelude.{IfOk, IfErr};
 ghost use Rattle.unistore.specs.Built.{IsBuilt};
 ghost use Rattle.unistore.specs.Report.{IsReportOf, IsLimitOf};
 
+use crate::performing::report_of_lines;
 use crate::schedule::Script;
 use std::alloc::Global;
 use us_report::Report;
@@ -14,5 +15,5 @@ pub fn report_of_script(alloc: Global, script: Script) -> Result<Report, LinesFa
     ensures limit { IfErr result (λ fault. IsLimitOf script fault) }
 {
     let (settings, lines) = script.into_parts();
-    us_world::report_of_lines(alloc, &settings, lines.as_slice())
+    report_of_lines(alloc, &settings, lines.as_slice())
 }

@@ -5,15 +5,15 @@ use Rattle.std.proofs.lemmas.List.{length-map}
 use Rattle.std.specs.Prelude.{⊤}
 use Rattle.std.specs.List.{slice_get}
 use Rattle.us_model.specs.declared.event.Event.TheVariants as event
-use Rattle.us_model.specs.Worlds.{World, WorldEvent, DeliverPacket, nth, world_step, run, least_undelivered, Flushes}
-use Rattle.us_world.specs.declared.world.Sent.{Sent}
+use Rattle.us_model.specs.Worlds.{World, WorldEvent, DeliverPacket, nth, world_step, run, least_due, least_undelivered, Flushes}
+use Rattle.us_network.specs.declared.sent.Sent.{Sent}
+use Rattle.us_network.specs.Packets.{packet_of, IsLeastDue}
 use Rattle.us_world.specs.declared.fault.WorldFault.{WorldFault}
 use Rattle.us_world.specs.declared.fault.WorldFault.TheVariants as fault
 use Rattle.us_world.specs.Limits.{Delivers, delivery_of}
-use Rattle.us_world.specs.WorldState.{WorldState, Represents, packet_of, is_due_at, NoneDue, HasSkipped, LimitSays, passed_by, marked, after_delivery}
+use Rattle.us_world.specs.WorldState.{WorldState, Represents, LimitSays, passed_by, marked, after_delivery}
 use Rattle.us_world.specs.Lines.{AdvancesBy, ExceedsBy, StoppedBy, IsDelivery}
-use Rattle.us_world.proofs.Standing.{nth-place, nth-outside, events-at, stands_delivery, stands_skipped}
-use Rattle.us_world.proofs.Due.{least_place, no_least}
+use Rattle.us_world.proofs.Standing.{nth-place, nth-outside, events-at, stands_delivery}
 use Rattle.us_world.proofs.WorldEvents.{run-append, limit_after, limit_one, OneEvent}
 
 pub events-delivery : (place : ℕ) (s : Sent) (k : WorldState) → (after_delivery place s k).events ≡ k.events + 1
@@ -51,14 +51,21 @@ flushes : (from to : ℕ) (w : World) (hs : List WorldEvent) → Delivers from t
 flushes from to w [] d e = e
 flushes from to w (h ∷ hs) d e = (d.0, flushes from to (world_step w h) hs d.1 e)
 
--- the next packet that is due
+-- the next packet that is due: none other is kept meanwhile
 pub record IsNext (from to : ℕ) (mid k : WorldState) (place : ℕ) : Type 0 where
-  pub skipped : HasSkipped mid k
-  pub due : is_due_at from to k.sent place ≡ true
-  pub first : NoneDue from to k.sent k.cursor place
+  pub same : k ≡ mid
+  pub due : IsLeastDue from to mid.sent (Some place)
 
-events-skipped : (mid k : WorldState) → HasSkipped mid k → k.events ≡ mid.events
-events-skipped mid k skip = ap (λ (m : WorldState). m.events) skip.same
+least_place : (mid k : WorldState) (w : World) (from to place : ℕ) → Represents k w → IsNext from to mid k place → least_undelivered w from to ≡ Some (place + 1)
+least_place mid k w from to place h next =
+    let due : IsLeastDue from to k.sent (Some place) = subst (λ (m : WorldState). IsLeastDue from to m.sent (Some place)) (sym next.same) next.due in
+    ap (λ ps. least_due from to w.delivered 1 ps) h.packets ∙ due w.delivered h.marked
+
+no_least : (k : WorldState) (w : World) (from to : ℕ) → Represents k w → IsLeastDue from to k.sent None → least_undelivered w from to ≡ None
+no_least k w from to h none = ap (λ ps. least_due from to w.delivered 1 ps) h.packets ∙ none w.delivered h.marked
+
+events-same : (mid k : WorldState) → k ≡ mid → k.events ≡ mid.events
+events-same mid k same = ap (λ (m : WorldState). m.events) same
 
 pub delivered_none : (from to : ℕ) (k : WorldState) → AdvancesBy (Delivers from to) k k
 delivered_none from to k w h =
@@ -72,12 +79,12 @@ delivered_more from to old mid k new place s so next at is within =
     let was = so w h in
     let hs = was.0 in
     let v = run hs w in
-    let here = stands_skipped mid k v was.3 next.skipped in
-    let least = least_place k v from to place (place + 1) here refl next.due next.first in
+    let here = subst (λ m. Represents m v) (sym next.same) was.3 in
+    let least = least_place mid k v from to place here next in
     let there = stands_delivery k v place (place + 1) s here at refl in
     let kept = after_delivery place s k in
     let events = events-delivery place s k in
-    let skipped = events-skipped mid k next.skipped in
+    let skipped = events-same mid k next.same in
     let before = was.4 in
     let front : k.events ≡ old.events + length hs = omega arith in
     let all : kept.events ≡ old.events + length (hs ++ DeliverPacket (place + 1) ∷ []) = omega (arith, length-append hs (DeliverPacket (place + 1) ∷ [])) in (
@@ -94,12 +101,12 @@ delivered-past from to old mid k place s which so next at past w h =
     let was = so w h in
     let hs = was.0 in
     let v = run hs w in
-    let here = stands_skipped mid k v was.3 next.skipped in
-    let least = least_place k v from to place (place + 1) here refl next.due next.first in
+    let here = subst (λ m. Represents m v) (sym next.same) was.3 in
+    let least = least_place mid k v from to place here next in
     let there = stands_delivery k v place (place + 1) s here at refl in
     let kept = after_delivery place s k in
     let events = events-delivery place s k in
-    let skipped = events-skipped mid k next.skipped in
+    let skipped = events-same mid k next.same in
     let before = was.4 in
     let front : k.events ≡ old.events + length hs = omega arith in (
       hs ++ DeliverPacket (place + 1) ∷ [],
@@ -115,14 +122,10 @@ delivered_stops fault.Events from to old mid k place s so next at says = deliver
 delivered_stops fault.Sessions from to old mid k place s so next at says = delivered-past from to old mid k place s fault.Sessions so next at says
 delivered_stops fault.Transactions from to old mid k place s so next at says = delivered-past from to old mid k place s fault.Transactions so next at says
 
-pub delivered_all : (from to : ℕ) (old mid new : WorldState) → AdvancesBy (Delivers from to) old mid → HasSkipped mid new
-    → NoneDue from to new.sent new.cursor (length new.sent)
+pub delivered_all : (from to : ℕ) (old mid new : WorldState) → AdvancesBy (Delivers from to) old mid → new ≡ mid → IsLeastDue from to mid.sent None
     → AdvancesBy (Flushes from to) old new
-delivered_all from to old mid new so skip none w h =
+delivered_all from to old mid new so same none =
+    subst (λ m. AdvancesBy (Flushes from to) old m) (sym same) (λ w h.
     let was = so w h in
     let v = run was.0 w in
-    let here = stands_skipped mid new v was.3 skip in
-    let skipped = events-skipped mid new skip in
-    let before = was.4 in
-    let all : new.events ≡ old.events + length was.0 = omega arith in
-    (was.0, flushes from to w was.0 was.1 (no_least new v from to here none), was.2, here, all)
+    (was.0, flushes from to w was.0 was.1 (no_least mid v from to was.3 none), was.2, was.3, was.4))

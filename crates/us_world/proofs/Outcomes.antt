@@ -1,12 +1,12 @@
 -- Lines lead to one outcome.
-use Rattle.std.proofs.Common.{◌≡◌, ◌∙◌, ℕ, ◌+◌, List, [], ◌∷◌, length, Option, Some, None, refl, sym, ap, subst, inl, inr, ◌⊎◌, arith}
+use Rattle.std.proofs.Common.{◌≡◌, ◌∙◌, ℕ, ◌+◌, List, [], ◌∷◌, length, map, Option, Some, None, refl, sym, ap, subst, inl, inr, ◌⊎◌, arith}
 use Rattle.us_schedule.specs.declared.line.Line.{Line}
 use Rattle.us_schedule.specs.declared.line.Line.TheVariants as line
 use Rattle.us_model.specs.Worlds.{World, WorldEvent, DeliverPacket, Flushes, least_undelivered, world_step, run, start}
 use Rattle.us_world.specs.declared.fault.WorldFault.{WorldFault}
 use Rattle.us_model.specs.declared.settings.Settings.{Settings}
 use Rattle.us_world.specs.declared.fault.Numbered.{Numbered}
-use Rattle.us_world.specs.Limits.{passed, or_else, limit_of, Performs, Begins, Delivers, IsWorldOf, IsPassedAt, OutcomesAreOne}
+use Rattle.us_world.specs.Limits.{passed, or_else, limit_of, Performs, Begins, Delivers, IsWorldOf, IsPassedAt, OutcomesAreOne, lines_of}
 use Rattle.us_world.proofs.RunsTo.{Outcome, Reaches, Passes, RunsTo, runs_to_world, runs_to_limit}
 
 -- the least packet is one
@@ -128,16 +128,28 @@ outcomes-one (l ∷ ls) n w a b (inr x) (inr y) =
     let same : x.0 ≡ y.0 = begins-one l.line n w x.1.0 y.1.0 x.0 y.0 x.1.1 y.1.1 x.1.2 y.1.2 in
     x.2 ∙ ap (λ which. Passes l.number which) same ∙ sym y.2
 
-reached : (settings : Settings) (lines : List Numbered) (w : World) → IsWorldOf settings lines w → RunsTo lines 0 (start settings) (Reaches w)
+reached : (settings : Settings) (lines : List Numbered) (w : World) → IsWorldOf settings (lines_of lines) w → RunsTo lines 0 (start settings) (Reaches w)
 reached settings lines w h = subst (λ v. RunsTo lines 0 (start settings) (Reaches v)) (sym h.run) (runs_to_world lines 0 (start settings) h.events h.are h.within)
+
+-- lines under some number
+abbrev numbered : Line → Numbered
+numbered l = record { number = 0; line = l }
+
+numbered-lines : (lines : List Line) → lines_of (map numbered lines) ≡ lines
+numbered-lines [] = refl
+numbered-lines (l ∷ ls) = ap (λ ks. l ∷ ks) (numbered-lines ls)
+
+reached_by : (settings : Settings) (lines : List Line) (w : World) → IsWorldOf settings lines w → RunsTo (map numbered lines) 0 (start settings) (Reaches w)
+reached_by settings lines w h = reached settings (map numbered lines) w (subst (λ ls. IsWorldOf settings ls w) (sym (numbered-lines lines)) h)
 
 passed_by : (settings : Settings) (lines : List Numbered) (n : ℕ) (which : WorldFault) → IsPassedAt settings lines n which
     → RunsTo lines 0 (start settings) (Passes n which)
 passed_by settings lines n which h =
-    let zero : 0 + length h.events ≡ length h.events = omega arith in
+    let p = h.passed in
+    let zero : 0 + length p.events ≡ length p.events = omega arith in
     let there =
-    runs_to_limit h.before h.line h.after 0 (start settings) h.events h.own which h.are h.within h.first
-    (ap (λ n. limit_of n h.own (run h.events (start settings))) zero ∙ h.passes) in
+    runs_to_limit h.before h.line h.after 0 (start settings) p.events p.own which p.are p.within p.first
+    (ap (λ n. limit_of n p.own (run p.events (start settings))) zero ∙ p.passes) in
     subst (λ m. RunsTo lines 0 (start settings) (Passes m which)) h.at
     (subst (λ (ls : List Numbered). RunsTo ls 0 (start settings) (Passes h.line.number which)) (sym h.split) there)
 
@@ -153,8 +165,8 @@ not_both w n a e = absurd (cc)
 pub outcomes_one : OutcomesAreOne
 outcomes_one = record {
   worlds =
-      λ settings lines w v x y. same_world w v (outcomes-one lines 0 (start settings) (Reaches w) (Reaches v) (reached settings lines w x)
-      (reached settings lines v y));
+      λ settings lines w v x y. same_world w v (outcomes-one (map numbered lines) 0 (start settings) (Reaches w) (Reaches v) (reached_by settings lines w x)
+      (reached_by settings lines v y));
   limits =
       λ settings lines n m a b x y. same_limit n m a b (outcomes-one lines 0 (start settings) (Passes n a) (Passes m b)
       (passed_by settings lines n a x) (passed_by settings lines m b y));

@@ -5,7 +5,7 @@ use Rattle.us_schedule.specs.declared.line.Line.{Line}
 use Rattle.us_model.specs.Worlds.{World, WorldEvent, run}
 use Rattle.us_world.specs.declared.fault.WorldFault.{WorldFault}
 use Rattle.us_world.specs.declared.fault.Numbered.{Numbered}
-use Rattle.us_world.specs.Limits.{Performs, Begins, limit_of, or_else, AreEventsOf}
+use Rattle.us_world.specs.Limits.{Performs, Begins, limit_of, or_else, AreEventsOf, lines_of}
 use Rattle.us_world.proofs.WorldEvents.{run-append, limit-append}
 
 -- the world that is reached, or the limit that is passed and the number of the line
@@ -32,10 +32,10 @@ RunsTo (l ∷ ls) events w outcome = RunsOn l.line events w (λ n v. RunsTo ls n
 
 -- THE EVENTS OF LINES
 -- one more line
-pub events_more : (before : List Numbered) (l : Numbered) (w : World) (es own : List WorldEvent) → AreEventsOf before w es → Performs l.line (run es w) own
+pub events_more : (before : List Line) (l : Line) (w : World) (es own : List WorldEvent) → AreEventsOf before w es → Performs l (run es w) own
     → AreEventsOf (before ++ l ∷ []) w (es ++ own)
 events_more [] l w es own are performs =
-    (own, [], subst (λ (xs : List WorldEvent). Performs l.line (run xs w) own) are performs, ap (λ xs. xs ++ own) are ∙ sym (append-nil own), refl)
+    (own, [], subst (λ (xs : List WorldEvent). Performs l (run xs w) own) are performs, ap (λ xs. xs ++ own) are ∙ sym (append-nil own), refl)
 events_more (x ∷ xs) l w es own are performs =
     let first = are.0 in
     let others = are.1 in
@@ -44,7 +44,7 @@ events_more (x ∷ xs) l w es own are performs =
       others ++ own,
       are.2,
       ap (λ hs. hs ++ own) are.3 ∙ append_assoc first others own,
-      events_more xs l (run first w) others own are.4 (subst (λ v. Performs l.line v own) same performs),
+      events_more xs l (run first w) others own are.4 (subst (λ v. Performs l v own) same performs),
     )
 
 none-first : (a b : Option WorldFault) → or_else a b ≡ None → a ≡ None
@@ -66,7 +66,7 @@ within-others n es own others w is within = none-second _ _ (sym (limit-append n
 run-parts : (es own others : List WorldEvent) (w : World) → es ≡ own ++ others → run es w ≡ run others (run own w)
 run-parts es own others w is = ap (λ hs. run hs w) is ∙ run-append own others w
 
-pub runs_to_world : (lines : List Numbered) (n : ℕ) (w : World) (es : List WorldEvent) → AreEventsOf lines w es → limit_of n es w ≡ None
+pub runs_to_world : (lines : List Numbered) (n : ℕ) (w : World) (es : List WorldEvent) → AreEventsOf (lines_of lines) w es → limit_of n es w ≡ None
     → RunsTo lines n w (Reaches (run es w))
 runs_to_world [] n w es are within = ap (λ hs. Reaches (run hs w)) are
 runs_to_world (l ∷ ls) n w es are within =
@@ -79,7 +79,7 @@ runs_to_world (l ∷ ls) n w es are within =
     )
 
 pub runs_to_limit : (before : List Numbered) (l : Numbered) (after : List Numbered) (n : ℕ) (w : World) (es own : List WorldEvent) (which : WorldFault)
-    → AreEventsOf before w es
+    → AreEventsOf (lines_of before) w es
     → limit_of n es w ≡ None → Begins l.line (run es w) own → limit_of (n + length es) own (run es w) ≡ Some which
     → RunsTo (before ++ l ∷ after) n w (Passes l.number which)
 runs_to_limit [] l after n w es own which are within begins past =

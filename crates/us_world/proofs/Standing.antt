@@ -20,11 +20,17 @@ use Rattle.us_model.specs.State.{Site}
 use Rattle.us_model.specs.Sites.{Stepped, site_step}
 use Rattle.us_model.specs.Worlds.{World, DeliverPacket, nth, stepped, at_one, at_site, delivered, deliver_packet, world_step, is_delivered}
 use Rattle.us_history.specs.Histories.{History, no_history}
-use Rattle.us_model.specs.Executions.{noted, noted_all}
-use Rattle.us_world.specs.declared.world.Sent.{Sent}
+use Rattle.us_model.specs.Executions.{noted, noted_all, decided_one}
+use Rattle.us_model.specs.declared.event.Note.TheVariants as note
+use Rattle.us_history.specs.Histories.{Begun, begun_of}
+use Rattle.us_extract.specs.Decisions.{HasDecided}
+use Rattle.us_kind.specs.declared.identity.Tid.{Tid}
+use Rattle.us_kind.specs.declared.memory.Memory.{Memory}
+use Rattle.us_network.specs.declared.sent.Sent.{Sent}
+use Rattle.us_network.specs.Packets.{packet_of, fresh, is_marked_at, IsDelivered}
 use Rattle.us_world.specs.Limits.{is_opening, is_beginning, how_many, opened_in, begun_in}
-use Rattle.us_world.specs.WorldState.{WorldState, Represents, site_of, HasStepped, packet_of, fresh, unmarked, is_marked_at, after_step, after_nothing, after_one}
-use Rattle.us_world.specs.WorldState.{after_at, marked, after_delivery, HasSkipped, IsDelivered, HasCome, LimitSays, passed_by}
+use Rattle.us_world.specs.WorldState.{WorldState, Represents, site_of, HasStepped, unmarked, after_step, after_nothing, after_one}
+use Rattle.us_world.specs.WorldState.{after_at, marked, after_delivery, HasCome, LimitSays, passed_by}
 
 -- PACKETS AND NOTES IN TURN
 -- one more is on its way
@@ -126,7 +132,6 @@ stands_step k w s r h = record {
   sites = ap (λ sites. slice_set sites (s - 1) r.site) h.sites;
   packets = ap (λ ps. ps ++ r.out.packets) h.packets ∙ sym (packets-append k.sent r.out.packets);
   marked = λ i. h.marked i ∙ sym (marked-append k.sent r.out.packets i);
-  before = λ i low high. marked-append k.sent r.out.packets i ∙ h.before i low high;
   history = noted-append no_history w.notes r.out.notes ∙ ap (λ t. noted_all t r.out.notes) h.history;
   sessions = how_many-append is_opening w.notes r.out.notes ∙ ap (λ n. n + opened_in r.out.notes) h.sessions;
   transactions = how_many-append is_beginning w.notes r.out.notes ∙ ap (λ n. n + begun_in r.out.notes) h.transactions;
@@ -138,7 +143,6 @@ stands_nothing k w h = record {
   sites = h.sites;
   packets = h.packets;
   marked = h.marked;
-  before = h.before;
   history = h.history;
   sessions = h.sessions;
   transactions = h.transactions;
@@ -194,7 +198,6 @@ stands_marked k w place number s h at is = record {
   sites = h.sites;
   packets = h.packets ∙ sym (packets-set k.sent place s (record s { delivered = true }) at refl);
   marked = λ i. mark i (number == (i + 1)) refl;
-  before = λ i low high. keep i (h.before i low high) (number == (i + 1)) refl;
   history = h.history;
   sessions = h.sessions;
   transactions = h.transactions;
@@ -218,11 +221,6 @@ stands_marked k w place number s h at is = record {
         del-same w.delivered number (i + 1) same ∙ sym (there i t)
     mark i false t = del-other w.delivered number (i + 1) t ∙ h.marked i ∙ sym (elsewhere i t)
 
-    keep : (i : ℕ) → is_marked_at k.sent i ≡ true → (t : Bool) → (number == (i + 1)) ≡ t
-        → is_marked_at (slice_set k.sent place (record s { delivered = true })) i ≡ true
-    keep i was true t = there i t
-    keep i was false t = elsewhere i t ∙ was
-
 pub stands_delivery : (k : WorldState) (w : World) (place number : ℕ) (s : Sent) → Represents k w → slice_get k.sent place ≡ Some s → number ≡ place + 1
     → Represents (after_delivery place s k) (world_step w (DeliverPacket number))
 unfolding world_step
@@ -231,38 +229,7 @@ stands_delivery k w place number s h at is =
     subst (λ o. Represents (after_delivery place s k) (deliver_packet w number o)) (sym sent)
     (stands_at (marked place s k) (delivered w number) s.packet.to.site (event.Take s.packet) (stands_marked k w place number s h at is))
 
--- THE CURSOR MOVES
-pub stands_skipped : (k next : WorldState) (w : World) → Represents k w → HasSkipped k next → Represents next w
-stands_skipped k next w h skip =
-    subst (λ (m : WorldState). Represents m w) (sym skip.same) (record {
-      sites = h.sites;
-      packets = h.packets;
-      marked = h.marked;
-      before = λ i low high. on i high (nat_lt i k.cursor) refl;
-      history = h.history;
-      sessions = h.sessions;
-      transactions = h.transactions;
-    })
-  where
-    on : (i : ℕ) → i < next.cursor → (t : Bool) → nat_lt i k.cursor ≡ t → is_marked_at k.sent i ≡ true
-    on i high true t =
-        let under : i < k.cursor = grind (arith, nat_tests) in
-        h.before i (omega arith) under
-    on i high false t =
-        let over : k.cursor ≤ i = grind (arith, nat_tests) in
-        skip.over i over high
-
--- A PLACE THAT IS DELIVERED
-pub delivered_is : (old : List Sent) (place : ℕ) (r m : Sent) (packet : Packet) → place < length old → r ≡ get_or old place r → m ≡ get_or old place m
-    → packet ≡ r.packet
-    → IsDelivered place old (slice_set old place (record { packet = m.packet; delivered = true })) packet
-delivered_is old place r m packet within here there is =
-    let first : slice_get old place ≡ Some r = slice_get-get_or old place r within ∙ ap Some (sym here) in
-    let second : slice_get old place ≡ Some m = slice_get-get_or old place m within ∙ ap Some (sym there) in
-    let same : r ≡ m = cc in
-    record { sent = m; at = second; is = is ∙ ap packet_of same; marked = refl }
-
--- and then its packet comes
+-- THE PACKET AT A PLACE IS DELIVERED
 pub come_of : {A : Type 0} (r : Result A WorldFault) (place : ℕ) (old new : WorldState) (after : List Sent) (packet : Packet)
     → IsDelivered place old.sent after packet
     → OnOk r (new ≡ after_at (record old { sent = after }) packet.to.site (event.Take packet))
@@ -320,7 +287,6 @@ pub world_stepped : (k : WorldState) (s place : ℕ) (e : Event) (sites new : Li
     → after_at k s e ≡ record {
       sites = map site_of new;
       sent = k.sent ++ unmarked out.packets;
-      cursor = k.cursor;
       history = noted_all k.history out.notes;
       events = k.events + 1;
       sessions = k.sessions + opened_in out.notes;
@@ -334,7 +300,6 @@ world_stepped k s place e sites new out is are h =
     ∙ (λ i. record {
       sites = slice_set (are i) (back i) r.site;
       sent = k.sent ++ unmarked (sym h.gives i).packets;
-      cursor = k.cursor;
       history = noted_all k.history (sym h.gives i).notes;
       events = k.events + 1;
       sessions = k.sessions + opened_in (sym h.gives i).notes;
@@ -343,9 +308,18 @@ world_stepped k s place e sites new out is are h =
     ∙ ap (λ xs. record {
       sites = xs;
       sent = k.sent ++ unmarked out.packets;
-      cursor = k.cursor;
       history = noted_all k.history out.notes;
       events = k.events + 1;
       sessions = k.sessions + opened_in out.notes;
       transactions = k.transactions + begun_in out.notes;
     }) (sym h.sites)
+
+-- A NOTE IS TOLD
+pub told_decided : {A : Type 0} (r : Result A Memory) (tid : Tid) (vector : List ℕ) (o : Option Begun) (old new : History) → o ≡ begun_of tid old.begun
+    → OnOk r (HasDecided false vector o old new) → OnOk r (new ≡ noted old (note.Decided tid vector))
+told_decided (Err e) tid vector o old new is h = tt
+told_decided (Ok u) tid vector o old new is h = on o h ∙ ap (decided_one old false vector) is
+  where
+    on : (o : Option Begun) → HasDecided false vector o old new → new ≡ decided_one old false vector o
+    on None h = h
+    on (Some b) h = h

@@ -1,5 +1,5 @@
 -- The limits of a run, the events that lines stand for, and the world that they reach within the limits.
-use Rattle.std.specs.Prelude.{◌≡◌, ⊤, ℕ, ◌+◌, nat_lt, Bool, true, false, if◌then◌else◌, List, [], ◌∷◌, ◌++◌, length, Option, Some, None}
+use Rattle.std.specs.Prelude.{◌≡◌, ⊤, ℕ, ◌+◌, nat_lt, Bool, true, false, if◌then◌else◌, List, [], ◌∷◌, ◌++◌, length, map, Option, Some, None}
 use Rattle.us_schedule.specs.declared.line.Line.{Line}
 use Rattle.us_schedule.specs.declared.line.Line.TheVariants as line
 use Rattle.us_model.specs.declared.event.Note.{Note}
@@ -96,35 +96,47 @@ abbrev pub GoOn : Line → World → List WorldEvent → (World → List WorldEv
 GoOn l w es Others = (own : List WorldEvent) × (others : List WorldEvent) × Performs l w own × (es ≡ own ++ others) × Others (run own w) others
 
 -- THE EVENTS OF LINES from a world on: of each line those that it stands for in the world that the earlier ones reach
-abbrev pub AreEventsOf : List Numbered → World → List WorldEvent → Type 0
+abbrev pub AreEventsOf : List Line → World → List WorldEvent → Type 0
 AreEventsOf [] w es = es ≡ []
-AreEventsOf (l ∷ ls) w es = GoOn l.line w es (λ v others. AreEventsOf ls v others)
+AreEventsOf (l ∷ ls) w es = GoOn l w es (λ v others. AreEventsOf ls v others)
 
 -- THE WORLD OF LINES: the run over their events, none of which passes a limit
-pub record IsWorldOf (settings : Settings) (lines : List Numbered) (w : World) : Type 0 where
+pub record IsWorldOf (settings : Settings) (lines : List Line) (w : World) : Type 0 where
   pub events : List WorldEvent
   pub are : AreEventsOf lines (start settings) events
   pub within : limit_of 0 events (start settings) ≡ None
   pub run : w ≡ run events (start settings)
 
--- THE LIMIT OF LINES: those before the one of this number are within the limits, and the first of its own events pass this one
+-- THE LIMIT OF A LINE: those before it are within the limits, and the first of its own events pass this one
+pub record IsPassedBy (settings : Settings) (before : List Line) (line : Line) (which : WorldFault) : Type 0 where
+  pub events : List WorldEvent
+  pub are : AreEventsOf before (start settings) events
+  pub within : limit_of 0 events (start settings) ≡ None
+  pub own : List WorldEvent
+  pub first : Begins line (run events (start settings)) own
+  pub passes : limit_of (length events) own (run events (start settings)) ≡ Some which
+
+-- ---- numbered lines
+
+abbrev pub line_of : Numbered → Line
+line_of l = l.line
+
+abbrev pub lines_of : List Numbered → List Line
+lines_of ls = map line_of ls
+
+-- THE LIMIT OF LINES: the one of this number passes this limit
 pub record IsPassedAt (settings : Settings) (lines : List Numbered) (number : ℕ) (which : WorldFault) : Type 0 where
   pub before : List Numbered
   pub line : Numbered
   pub after : List Numbered
   pub split : lines ≡ before ++ line ∷ after
   pub at : line.number ≡ number
-  pub events : List WorldEvent
-  pub are : AreEventsOf before (start settings) events
-  pub within : limit_of 0 events (start settings) ≡ None
-  pub own : List WorldEvent
-  pub first : Begins line.line (run events (start settings)) own
-  pub passes : limit_of (length events) own (run events (start settings)) ≡ Some which
+  pub passed : IsPassedBy settings (lines_of before) line.line which
 
 -- the same lines have one world or one limit
 pub record OutcomesAreOne : Type 0 where
-  pub worlds : (settings : Settings) (lines : List Numbered) (w v : World) → IsWorldOf settings lines w → IsWorldOf settings lines v → w ≡ v
+  pub worlds : (settings : Settings) (lines : List Line) (w v : World) → IsWorldOf settings lines w → IsWorldOf settings lines v → w ≡ v
   pub limits : (settings : Settings) (lines : List Numbered) (n m : ℕ) (a b : WorldFault) → IsPassedAt settings lines n a
       → IsPassedAt settings lines m b → (n ≡ m) × (a ≡ b)
-  pub apart : (settings : Settings) (lines : List Numbered) (w : World) (n : ℕ) (a : WorldFault) → IsWorldOf settings lines w
+  pub apart : (settings : Settings) (lines : List Numbered) (w : World) (n : ℕ) (a : WorldFault) → IsWorldOf settings (lines_of lines) w
       → IsPassedAt settings lines n a → ⊥

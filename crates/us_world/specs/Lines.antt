@@ -1,15 +1,11 @@
--- What the lines of a schedule come to by code, and the report at their end.
-use Rattle.std.specs.Prelude.{◌≡◌, ⊤, ℕ, ◌+◌, List, [], ◌∷◌, length, Some, None}
+-- What the lines of a schedule come to by code.
+use Rattle.std.specs.Prelude.{◌≡◌, ⊤, ℕ, ◌+◌, List, [], ◌∷◌, ◌++◌, length, Bool, true, false, Some, None}
 use Rattle.us_schedule.specs.declared.line.Line.{Line}
 use Rattle.us_schedule.specs.declared.line.Line.TheVariants as line
-use Rattle.us_report.specs.declared.report.Report.{Report}
 use Rattle.us_model.specs.declared.settings.Settings.{Settings}
-use Rattle.us_model.specs.Worlds.{World, WorldEvent, waits_of, run}
-use Rattle.us_model.specs.Executions.{execution_of, refusals_of}
-use Rattle.us_history.specs.Pasts.{direct_past}
-use Rattle.us_history.specs.Executions.{execution_by}
+use Rattle.us_model.specs.Worlds.{World, WorldEvent, run, start}
 use Rattle.us_world.specs.WorldState.{WorldState, Represents}
-use Rattle.us_world.specs.Limits.{Performs, Begins, delivery, limit_of, IsWorldOf, IsPassedAt}
+use Rattle.us_world.specs.Limits.{Performs, Begins, delivery, limit_of, AreEventsOf, IsWorldOf, IsPassedBy, IsPassedAt, lines_of}
 use Rattle.us_world.specs.declared.fault.WorldFault.{WorldFault}
 use Rattle.us_world.specs.declared.fault.WorldFault.TheVariants as fault
 use Rattle.us_world.specs.declared.fault.LinesFault.{LinesFault}
@@ -60,30 +56,62 @@ IsStopped l old which = StoppedBy (Begins l) old which
 abbrev pub IsDelivery : ℕ → World → List WorldEvent → Type 0
 IsDelivery number w hs = hs ≡ delivery number w
 
--- THE REPORT OF A WORLD
-abbrev pub report_of : World → Report
-report_of w = record { execution = execution_of w.notes; refused = refusals_of w.notes; waiting = waits_of w.sites }
+-- what is kept stands for the run over the events of the lines, none of which passes a limit
+pub record HasReached (settings : Settings) (lines : List Line) (k : WorldState) : Type 0 where
+  pub events : List WorldEvent
+  pub are : AreEventsOf lines (start settings) events
+  pub within : limit_of 0 events (start settings) ≡ None
+  pub counts : k.events ≡ length events
+  pub stands : Represents k (run events (start settings))
 
--- as it is of what is kept
-abbrev pub report_of_kept : WorldState → Report
-report_of_kept k = record { execution = execution_by direct_past k.history; refused = k.history.refused; waiting = waits_of k.sites }
+-- ---- a world, as its user sees it
 
--- what is kept stands for the world of the lines
-pub record HasReached (settings : Settings) (lines : List Numbered) (k : WorldState) : Type 0 where
+-- how it was configured, the lines performed, whether a fault stopped it, and what is kept
+pub record Performed : Type 0 where
+  pub settings : Settings
+  pub lines : List Line
+  pub stopped : Bool
+  pub kept : WorldState
+
+-- unless it is stopped, what is kept stands for the run over the lines
+abbrev pub StandsUnless : Bool → Settings → List Line → WorldState → Type 0
+StandsUnless true settings lines k = ⊤
+StandsUnless false settings lines k = HasReached settings lines k
+
+-- THIS HOLDS OF THE WORLD OF THE LINES
+pub record OfWorld (settings : Settings) (lines : List Line) (Is : World → Type 0) : Type 0 where
   pub world : World
-  pub stands : Represents k world
   pub is : IsWorldOf settings lines world
+  pub holds : Is world
 
 -- the lines have a world
-pub record HaveWorld (settings : Settings) (lines : List Numbered) : Type 0 where
-  pub world : World
-  pub is : IsWorldOf settings lines world
+abbrev pub HasWorld : Settings → List Line → Type 0
+HasWorld settings lines = OfWorld settings lines (λ w. ⊤)
 
--- the report is that of the world of the lines
-pub record IsReportOf (settings : Settings) (lines : List Numbered) (report : Report) : Type 0 where
-  pub world : World
-  pub reached : IsWorldOf settings lines world
-  pub is : report ≡ report_of world
+-- the opening world, in which no line was performed
+pub record IsOpening (settings : Settings) (world : Performed) : Type 0 where
+  pub settings_are : world.settings ≡ settings
+  pub lines : world.lines ≡ []
+  pub runs : world.stopped ≡ false
+  pub reached : HasWorld settings []
+
+-- one more line was performed
+pub record HasPerformed (line : Line) (old new : Performed) : Type 0 where
+  pub settings : new.settings ≡ old.settings
+  pub lines : new.lines ≡ old.lines ++ line ∷ []
+  pub runs : new.stopped ≡ false
+  pub reached : HasWorld old.settings (old.lines ++ line ∷ [])
+
+-- a fault is the limit that the line passes behind the others, unless memory ran out
+abbrev pub IsFaultOf : Settings → List Line → Line → WorldFault → Type 0
+IsFaultOf settings lines line fault.Memory = ⊤
+IsFaultOf settings lines line which = IsPassedBy settings lines line which
+
+-- ---- numbered lines
+
+-- the lines have a world
+abbrev pub HaveWorld : Settings → List Numbered → Type 0
+HaveWorld settings lines = HasWorld settings (lines_of lines)
 
 -- the lines pass that limit at that line, unless memory ran out
 abbrev pub IsLimitOf : Settings → List Numbered → LinesFault → Type 0

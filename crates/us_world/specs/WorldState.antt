@@ -8,20 +8,19 @@ use Rattle.us_model.specs.State.{Site}
 use Rattle.us_model.specs.Sites.{Stepped, site_step}
 use Rattle.us_model.specs.declared.event.Outputs.{Outputs}
 use Rattle.us_site.specs.Served.{Served}
-use Rattle.us_model.specs.Worlds.{World, nth, is_delivered}
+use Rattle.us_model.specs.Worlds.{World, nth}
 use Rattle.us_history.specs.Histories.{History}
 use Rattle.us_model.specs.Executions.{noted_all, history_of}
-use Rattle.us_world.specs.declared.world.Sent.{Sent}
+use Rattle.us_network.specs.declared.sent.Sent.{Sent}
+use Rattle.us_network.specs.Packets.{packet_of, fresh, AreDelivered}
 use Rattle.us_world.specs.declared.fault.WorldFault.{WorldFault}
 use Rattle.us_world.specs.declared.fault.WorldFault.TheVariants as fault
 use Rattle.us_world.specs.Limits.{past_limits, opened_in, begun_in}
 
--- the sites from 1, all packets ever sent with a mark at those that were delivered, a place before which all are marked, what
--- was told, and how many events, opened sessions and begun transactions there were
+-- the sites from 1, all packets ever sent with a mark at those that were delivered, what was told, and how many events, opened sessions and begun transactions there were
 pub record WorldState : Type 0 where
   pub sites : List Site
   pub sent : List Sent
-  pub cursor : ℕ
   pub history : History
   pub events : ℕ
   pub sessions : ℕ
@@ -31,36 +30,16 @@ pub record WorldState : Type 0 where
 abbrev pub site_of : Served → Site
 site_of s = s.site
 
--- the packets that were sent
-abbrev pub packet_of : Sent → Packet
-packet_of s = s.packet
-
--- whether the packet at a place, from 0, was delivered
-abbrev pub is_marked : Option Sent → Bool
-is_marked None = false
-is_marked (Some s) = s.delivered
-
-abbrev pub is_marked_at : List Sent → ℕ → Bool
-is_marked_at sent place = is_marked (slice_get sent place)
-
--- each packet in this range of places was delivered
-abbrev pub AllMarked : List Sent → ℕ → ℕ → Type 0
-AllMarked sent first end = (i : ℕ) → first ≤ i → i < end → is_marked_at sent i ≡ true
-
 -- the kept stands for the world
 pub record Represents (k : WorldState) (w : World) : Type 0 where
   pub sites : w.sites ≡ k.sites
   pub packets : w.packets ≡ map packet_of k.sent
-  pub marked : (i : ℕ) → is_delivered w.delivered (i + 1) ≡ is_marked_at k.sent i
-  pub before : AllMarked k.sent 0 k.cursor
+  pub marked : AreDelivered w.delivered k.sent
   pub history : history_of w.notes ≡ k.history
   pub sessions : opened_in w.notes ≡ k.sessions
   pub transactions : begun_in w.notes ≡ k.transactions
 
 -- packets that weren't delivered yet
-abbrev pub fresh : Packet → Sent
-fresh p = record { packet = p; delivered = false }
-
 abbrev pub unmarked : List Packet → List Sent
 unmarked ps = map fresh ps
 
@@ -77,7 +56,6 @@ after_step s k r =
     record {
       sites = slice_set k.sites (s - 1) r.site;
       sent = k.sent ++ unmarked r.out.packets;
-      cursor = k.cursor;
       history = noted_all k.history r.out.notes;
       events = k.events + 1;
       sessions = k.sessions + opened_in r.out.notes;
@@ -102,36 +80,6 @@ marked place s k = record k { sent = slice_set k.sent place (record s { delivere
 
 abbrev pub after_delivery : ℕ → Sent → WorldState → WorldState
 after_delivery place s k = after_at (marked place s k) s.packet.to.site (event.Take s.packet)
-
--- the packet at this place is delivered, and is that one
-pub record IsDelivered (place : ℕ) (old new : List Sent) (packet : Packet) : Type 0 where
-  pub sent : Sent
-  pub at : slice_get old place ≡ Some sent
-  pub is : packet ≡ sent.packet
-  pub marked : new ≡ slice_set old place (record sent { delivered = true })
-
--- ---- what is due
-
--- a packet from one site to another is on its way
-abbrev pub is_due : ℕ → ℕ → Sent → Bool
-is_due from to s = ((s.packet.from.site == from) && (s.packet.to.site == to)) && not s.delivered
-
-abbrev pub is_due_of : ℕ → ℕ → Option Sent → Bool
-is_due_of from to None = false
-is_due_of from to (Some s) = is_due from to s
-
-abbrev pub is_due_at : ℕ → ℕ → List Sent → ℕ → Bool
-is_due_at from to sent place = is_due_of from to (slice_get sent place)
-
--- no packet in this range of places is
-abbrev pub NoneDue : ℕ → ℕ → List Sent → ℕ → ℕ → Type 0
-NoneDue from to sent first end = (i : ℕ) → first ≤ i → i < end → is_due_at from to sent i ≡ false
-
--- the cursor went over what was delivered, and all else is as it was
-pub record HasSkipped (old new : WorldState) : Type 0 where
-  pub same : new ≡ record old { cursor = new.cursor }
-  pub over : AllMarked old.sent old.cursor new.cursor
-  pub forward : old.cursor ≤ new.cursor
 
 -- ---- limits
 

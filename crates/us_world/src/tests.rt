@@ -1,2 +1,1 @@
-mod history;
 mod sites;

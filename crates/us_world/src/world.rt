@@ -1,398 +1,120 @@
-//! A world: its sites, and the packets between their actors.
-ghost use Rattle.std.specs.Prelude.{◌≡◌, ◌+◌, ◌++◌, ◌<◌, ◌≤◌, ◌^◌, true, false, length, map, IfOk, IfErr, IfSome, IfNone, OnOk};
+//! A world, as its user sees it.
+ghost use Rattle.std.specs.Prelude.{◌≡◌, ◌++◌, ◌∷◌, [], false, IfOk, IfErr, OnOk};
 ghost use Rattle.us_base.specs.Shape.{IsShape};
-ghost use Rattle.us_model.specs.Worlds.{new_sites, start, waits_of, Flushes};
-ghost use Rattle.us_model.specs.Executions.{noted_all};
-ghost use Rattle.us_snapshots.specs.Ascending.{Ascends};
-ghost use Rattle.us_world.specs.WorldState.{AllMarked, Represents, unmarked, site_of, HasStepped, after_at, passed_by, is_due, is_due_at, NoneDue, HasSkipped, HasCome, IsDelivered, LimitSays};
-ghost use Rattle.us_world.specs.Limits.{Delivers, is_opening, is_beginning, opened_in, begun_in};
-ghost use Rattle.us_world.specs.Lines.{IsBuilt, AdvancesBy, StoppedBy, IsDelivery, IsPerformed, IsStopped, report_of_kept};
+ghost use Rattle.us_exec.specs.Consistency.{IsSound};
+ghost use Rattle.us_model.specs.Worlds.{waits_of};
+ghost use Rattle.us_model.specs.Executions.{execution_of, refusals_of};
+ghost use Rattle.us_order.specs.Premise.{HasOnePartition};
+ghost use Rattle.us_world.specs.Lines.{IsBuilt, IsOpening, HasPerformed, IsFaultOf, OfWorld};
 
-use crate::{History, WorldFault};
+use crate::WorldFault;
+use crate::run::Run;
 use std::alloc::Global;
 use std::marker::Model;
-use us_base::Limits;
-use us_exec::WaitingRequest;
-use us_kind::{Bytes, Items, Memory, checked_sum};
+use us_exec::{Execution, RefusedRequest, WaitingRequest};
+use us_kind::{Items, Memory};
 use us_model::Settings;
-use us_peer_wire::Packet;
-use us_report::Report;
+use us_order::{
+    every_run_is_por, executions_are_direct, executions_are_well_formed, histories_ascend,
+};
 use us_schedule::Line;
-use us_site::{Event, Note, Outputs, Site};
 
-/// The most events of a run.
-const MOST_EVENTS: u64 = Limits::RUN_EVENTS;
-
-/// The most sessions that are opened in a run.
-const MOST_SESSIONS: u64 = Limits::RUN_SESSIONS;
-
-/// The most transactions that are begun in a run.
-const MOST_TRANSACTIONS: u64 = Limits::RUN_TRANSACTIONS;
-
-/// A packet that was sent, and whether it was delivered.
-#[derive(Drop)]
-pub struct Sent {
-    pub packet: Packet,
-    pub delivered: bool,
-}
-
-/// A world: its sites, all packets that were ever sent, in order, and what the sites told.
+/// A world: the run over the events of the lines that were performed, from the opening world of a store on.
 #[derive(Drop)]
 pub struct World {
-    sites: Vec<Site>,
-    sent: Vec<Sent>,
-    // Each packet before this place was delivered.
-    cursor: usize,
-    history: History,
-    events: u64,
-    sessions: u64,
-    transactions: u64,
+    settings: Settings,
+    lines: Vec<Line>,
+    run: Run,
+    stopped: bool,
 }
 
 impl Model for World {
-    ghost use Rattle.std.specs.Prelude.{map};
-    ghost use Rattle.us_world.specs.WorldState.{WorldState, site_of};
+    ghost use Rattle.us_world.specs.Lines.{Performed, StandsUnless};
 
-    ghost Value = { WorldState };
+    ghost Value = { Performed };
 
-    ghost view = { λ a. record { sites = map site_of a.sites.items; sent = a.sent.items; cursor = a.cursor; history = a.history; events = a.events; sessions = a.sessions; transactions = a.transactions } };
+    ghost view = { λ a. record { settings = a.settings; lines = a.lines.items; stopped = a.stopped; kept = a.run } };
+
+    ghost invariant = { λ a. StandsUnless a.stopped a.settings a.lines.items a.run };
 }
 
-fn is_opening(note: &Note) -> bool
-    ensures { result ≡ is_opening note.now }
+/// A copy of the line at the end.
+fn add_line(lines: &mut Vec<Line>, line: &Line) -> Result<(), Memory>
+    ensures { OnOk result (lines.new.items ≡ lines.old.items ++ line.now ∷ []) }
 {
-    match note {
-        Note::Opened { .. } => true,
-        _ => false,
-    }
-}
-
-fn is_beginning(note: &Note) -> bool
-    ensures { result ≡ is_beginning note.now }
-{
-    match note {
-        Note::Begun { .. } => true,
-        _ => false,
-    }
-}
-
-/// How many sessions the notes open.
-fn opened_in(notes: &[Note]) -> u64
-    ensures { result ≡ opened_in notes.now }
-{
-    let mut count = 0;
-    for note in notes {
-        if is_opening(note) {
-            count += 1;
-        }
-    }
-    count
-}
-
-/// How many transactions the notes begin.
-fn begun_in(notes: &[Note]) -> u64
-    ensures { result ≡ begun_in notes.now }
-{
-    let mut count = 0;
-    for note in notes {
-        if is_beginning(note) {
-            count += 1;
-        }
-    }
-    count
-}
-
-/// The packets are on their way.
-fn send_all(sent: &mut Vec<Sent>, packets: Items<Packet>) -> Result<(), Memory>
-    ensures { OnOk result (sent.new.items ≡ sent.old.items ++ unmarked packets) }
-{
-    for packet in packets.into_vec() {
-        sent.push(Sent {
-            packet,
-            delivered: false,
-        })?;
-    }
+    lines.push(line.copy()?)?;
     Ok(())
-}
-
-/// The notes are told.
-fn tell_all(history: &mut History, notes: Items<Note>) -> Result<(), Memory>
-    ensures { OnOk result (history.new ≡ noted_all history.old notes) }
-{
-    for note in notes.into_vec() {
-        history.note(note)?;
-    }
-    Ok(())
-}
-
-/// The first place, from this one on, of a packet that wasn't delivered.
-fn first_undelivered(sent: &[Sent], cursor: usize) -> usize
-    ensures marked { AllMarked sent.now cursor result }
-    ensures forward { cursor ≤ result }
-{
-    let mut place = cursor;
-    while place < sent.len() && sent[place].delivered {
-        place += 1;
-    }
-    place
-}
-
-/// A copy of the packet at this place, which is delivered from now on.
-fn delivered_copy(sent: &mut Vec<Sent>, place: usize) -> Result<Packet, Memory>
-    requires { place < length sent.old.items }
-    ensures { IfOk result (λ packet. IsDelivered place sent.old.items sent.new.items packet) }
-{
-    let packet = sent[place].packet.copy()?;
-    sent[place].delivered = true;
-    Ok(packet)
-}
-
-/// A packet from one site to another is on its way.
-fn is_due(sent: &Sent, from: u8, to: u8) -> bool
-    ensures { result ≡ is_due from to sent.now }
-{
-    sent.packet.from.site == from && sent.packet.to.site == to && !sent.delivered
-}
-
-/// The first place, from this one on, of a packet from one site to another that wasn't delivered.
-fn first_due(sent: &[Sent], cursor: usize, from: u8, to: u8) -> Option<usize>
-    ensures found { IfSome result (λ place. (place < length sent.now) × (is_due_at from to sent.now place ≡ true)) }
-    ensures first { IfSome result (λ place. NoneDue from to sent.now cursor place) }
-    ensures none { IfNone result (NoneDue from to sent.now cursor (length sent.now)) }
-{
-    let mut place = cursor;
-    while place < sent.len() {
-        if is_due(&sent[place], from, to) {
-            return Some(place);
-        }
-        place += 1;
-    }
-    None
-}
-
-/// The sessions that wait, in order.
-fn waits_of(alloc: Global, sites: &[Site]) -> Result<Items<WaitingRequest>, Memory>
-    ensures { IfOk result (λ waits. waits ≡ waits_of (map site_of sites.now)) }
-{
-    let mut waits = Vec::new(alloc);
-    for site in sites {
-        site.put_waits(&mut waits)?;
-    }
-    Ok(Items::of(waits))
-}
-
-/// The sites of a store with these settings, of which nothing has come.
-fn new_sites(alloc: Global, settings: &Settings) -> Result<Vec<Site>, Memory>
-    requires { IsShape settings.now.shape }
-    ensures { IfOk result (λ sites. map site_of sites.items ≡ new_sites settings.now) }
-{
-    let mut sites = Vec::new(alloc);
-    for before in 0..settings.shape.sites() {
-        sites.push(Site::new(alloc, settings, before + 1)?)?;
-    }
-    Ok(sites)
-}
-
-/// The site at this place takes an event, unless memory ran out there before.
-fn step_site(
-    alloc: Global,
-    sites: &mut [Site],
-    place: usize,
-    event: Event,
-) -> Result<Outputs, Memory>
-    requires { place < length sites.old }
-    ensures { IfOk result (λ out. HasStepped place event sites.old sites.new out) }
-{
-    if sites[place].stopped() {
-        return Err(Memory);
-    }
-    sites[place].step(alloc, event)
 }
 
 impl World {
     /// The opening world of a store with these settings, in which nothing has happened.
     pub fn new(alloc: Global, settings: &Settings) -> Result<World, Memory>
         requires { IsShape settings.now.shape }
-        ensures start { IfOk result (λ world. Represents world (start settings.now)) }
-        ensures events { IfOk result (λ world. world.events ≡ 0) }
+        ensures { IfOk result (λ world. IsOpening settings.now world) }
     {
         Ok(World {
-            sites: new_sites(alloc, settings)?,
-            sent: Vec::new(alloc),
-            cursor: 0,
-            history: History::new(alloc),
-            events: 0,
-            sessions: 0,
-            transactions: 0,
+            settings: settings.copy()?,
+            lines: Vec::new(alloc),
+            run: Run::new(alloc, settings)?,
+            stopped: false,
         })
     }
 
-    /// An event at the site of this number, with its outputs. After a failed allocation the world is only dropped.
-    fn step(&mut self, alloc: Global, site: u8, event: Event) -> Result<(), Memory>
-        requires first { 1 ≤ site }
-        requires last { site ≤ length self.old.sites }
-        requires room { self.old.events < 1000000 }
-        ensures { OnOk result (self.new ≡ after_at self.old site event) }
-    {
-        let place = usize::from(site) - 1;
-        let out = step_site(alloc, self.sites.as_mut_slice(), place, event)?;
-        self.events += 1;
-        self.sessions = checked_sum(self.sessions, opened_in(out.notes.as_slice()))?;
-        self.transactions = checked_sum(self.transactions, begun_in(out.notes.as_slice()))?;
-        send_all(&mut self.sent, out.packets)?;
-        tell_all(&mut self.history, out.notes)
-    }
-
-    /// An event at a site, also where there is none of that number, which changes nothing but counts.
-    fn step_at(&mut self, alloc: Global, site: u8, event: Event) -> Result<(), Memory>
-        requires { self.old.events < 1000000 }
-        ensures happened { OnOk result (self.new ≡ after_at self.old site event) }
-        ensures cursor { OnOk result (self.new.cursor ≡ self.old.cursor) }
-    {
-        if 1 <= site && usize::from(site) <= self.sites.len() {
-            return self.step(alloc, site, event);
-        }
-        self.events += 1;
-        Ok(())
-    }
-
-    /// Whether the counts are within their limits.
-    fn within_limits(&self) -> Result<(), WorldFault>
-        ensures { LimitSays result (passed_by self.now) }
-    {
-        if self.events > MOST_EVENTS {
-            return Err(WorldFault::Events);
-        }
-        if self.sessions > MOST_SESSIONS {
-            return Err(WorldFault::Sessions);
-        }
-        if self.transactions > MOST_TRANSACTIONS {
-            return Err(WorldFault::Transactions);
-        }
-        Ok(())
-    }
-
-    /// An event at a site, within the limits. After a fault the world is only dropped.
-    fn happen(&mut self, alloc: Global, site: u8, event: Event) -> Result<(), WorldFault>
-        ensures happened { OnOk result (self.new ≡ after_at self.old site event) }
-        ensures cursor { OnOk result (self.new.cursor ≡ self.old.cursor) }
-        ensures limit { LimitSays result (passed_by (after_at self.old site event)) }
-    {
-        if self.events >= MOST_EVENTS {
-            return Err(WorldFault::Events);
-        }
-        self.step_at(alloc, site, event)?;
-        self.within_limits()
-    }
-
-    /// The packet at this place comes, also one that came before.
-    fn deliver_at(&mut self, alloc: Global, place: usize) -> Result<(), WorldFault>
-        requires { place < length self.old.sent }
-        ensures deliver_packet { HasCome result place self.old self.new }
-        ensures cursor { OnOk result (self.new.cursor ≡ self.old.cursor) }
-    {
-        let packet = delivered_copy(&mut self.sent, place)?;
-        self.happen(alloc, packet.to.site, Event::Take { packet })
-    }
-
-    /// The packet of this number, from 1, comes, where so many were sent.
-    fn deliver(&mut self, alloc: Global, number: u64) -> Result<(), WorldFault>
-        ensures delivered { OnOk result (AdvancesBy (IsDelivery number) self.old self.new) }
-        ensures forward { OnOk result (self.old.cursor ≤ self.new.cursor) }
-        ensures stopped { IfErr result (λ fault. StoppedBy (IsDelivery number) self.old fault) }
-    {
-        if number == 0 || number > self.sent.len() as u64 {
-            return Ok(());
-        }
-        self.deliver_at(alloc, (number - 1) as usize)
-    }
-
-    /// The place of the least undelivered packet from one site to another.
-    fn next_due(&mut self, from: u8, to: u8) -> Option<usize>
-        ensures skipped { HasSkipped self.old self.new }
-        ensures found { IfSome result (λ place. (place < length self.new.sent) × (is_due_at from to self.new.sent place ≡ true)) }
-        ensures first { IfSome result (λ place. NoneDue from to self.new.sent self.new.cursor place) }
-        ensures none { IfNone result (NoneDue from to self.new.sent self.new.cursor (length self.new.sent)) }
-    {
-        self.cursor = first_undelivered(self.sent.as_slice(), self.cursor);
-        first_due(self.sent.as_slice(), self.cursor, from, to)
-    }
-
-    /// The packets from one site to another come, in order, and those that are sent meanwhile.
-    fn flush(&mut self, alloc: Global, from: u8, to: u8) -> Result<(), WorldFault>
-        ensures flushed { OnOk result (AdvancesBy (Flushes from to) self.old self.new) }
-        ensures forward { OnOk result (self.old.cursor ≤ self.new.cursor) }
-        ensures stopped { IfErr result (λ fault. StoppedBy (Delivers from to) self.old fault) }
-    {
-        while let Some(place) = self.next_due(from, to) {
-            self.deliver_at(alloc, place)?;
-        }
-        Ok(())
-    }
-
-    /// What the line stands for happens. A fault that is a limit comes at the first event that takes a count past its
-    /// number: events first, then sessions, then transactions. After a fault the world is only dropped. Packets that the cursor
-    /// went over are not looked at again.
+    /// What the line stands for happens, and the line stands at the end of those performed. A fault that is a limit comes at
+    /// the first event that takes a count past its number: events first, then sessions, then transactions. After a fault the
+    /// world is only dropped: it is stopped, and all that it answers is want of memory.
     pub fn perform(&mut self, alloc: Global, line: &Line) -> Result<(), WorldFault>
         requires { IsBuilt line.now }
-        ensures performed { OnOk result (IsPerformed line.now self.old self.new) }
-        ensures forward { OnOk result (self.old.cursor ≤ self.new.cursor) }
-        ensures stopped { IfErr result (λ fault. IsStopped line.now self.old fault) }
+        ensures performed { OnOk result (HasPerformed line.now self.old self.new) }
+        ensures stopped { IfErr result (λ fault. IsFaultOf self.old.settings self.old.lines line.now fault) }
     {
-        match line {
-            Line::Open { site, coord } => self.happen(alloc, *site, Event::Open { coord: *coord }),
-            Line::Bytes {
-                site,
-                coord,
-                session,
-                bytes,
-            } => {
-                let bytes = bytes.copy()?;
-                self.happen(
-                    alloc,
-                    *site,
-                    Event::Bytes {
-                        coord: *coord,
-                        session: *session,
-                        bytes,
-                    },
-                )
-            }
-            Line::Close {
-                site,
-                coord,
-                session,
-            } => self.happen(
-                alloc,
-                *site,
-                Event::Close {
-                    coord: *coord,
-                    session: *session,
-                },
-            ),
-            Line::Deliver { number } => self.deliver(alloc, *number),
-            Line::Flush { from, to } => self.flush(alloc, *from, *to),
-            _ => unreachable!(),
+        if self.stopped {
+            return Err(WorldFault::Memory);
         }
+        self.stopped = true;
+        add_line(&mut self.lines, line)?;
+        self.run.perform(alloc, line)?;
+        self.stopped = false;
+        Ok(())
     }
 
-    /// What the run so far told.
-    pub fn history(&self) -> &History
-        ensures { result.now ≡ self.now.history }
+    /// The lines that were performed, in order.
+    pub fn lines(&self) -> &[Line]
+        ensures { result.now ≡ self.now.lines }
     {
-        &self.history
+        self.lines.as_slice()
     }
 
-    /// What the run so far came to. The history of every world that lines lead to ascends (`us_order`, `histories_ascend`), and
-    /// `History::ascends` tests it.
-    pub fn report(&self, alloc: Global) -> Result<Report, Memory>
-        requires { Ascends self.now.history }
-        ensures { IfOk result (λ report. report ≡ report_of_kept self.now) }
+    /// The execution of the world. It is well formed, and consistent by the declared conflicts.
+    pub fn execution(&self, alloc: Global) -> Result<Execution, Memory>
+        requires { HasOnePartition self.now.settings }
+        ensures is { IfOk result (λ execution. OfWorld self.now.settings self.now.lines (λ w. execution ≡ execution_of w.notes)) }
+        ensures sound { IfOk result (λ execution. IsSound self.now.settings.conflicts execution) }
     {
-        Ok(Report {
-            execution: self.history.execution(alloc)?,
-            refused: self.history.refusals(alloc)?,
-            waiting: waits_of(alloc, self.sites.as_slice())?,
-        })
+        executions_are_direct();
+        executions_are_well_formed();
+        every_run_is_por();
+        histories_ascend();
+        if self.stopped {
+            return Err(Memory);
+        }
+        self.run.history().execution(alloc)
+    }
+
+    /// The refused requests, in order.
+    pub fn refusals(&self) -> &[RefusedRequest]
+        ensures { self.now.stopped ≡ false → OfWorld self.now.settings self.now.lines (λ w. result.now ≡ refusals_of w.notes) }
+    {
+        self.run.history().refused()
+    }
+
+    /// The sessions that wait, in order, each with its first unanswered request.
+    pub fn waiting(&self, alloc: Global) -> Result<Items<WaitingRequest>, Memory>
+        ensures { IfOk result (λ waits. OfWorld self.now.settings self.now.lines (λ w. waits ≡ waits_of w.sites)) }
+    {
+        if self.stopped {
+            return Err(Memory);
+        }
+        self.run.waiting(alloc)
     }
 }

@@ -6,7 +6,7 @@ use Rattle.us_exec.specs.Consistency.{IsSound}
 use Rattle.us_report.specs.declared.report.Report.{Report}
 use Rattle.us_world.specs.declared.fault.LinesFault.{LinesFault}
 use Rattle.unistore.specs.declared.schedule.Script.{Script}
-use Rattle.us_world.specs.Lines.{IsReportOf as IsWorldReport}
+use Rattle.unistore.specs.Performing.{IsReportOf as IsWorldReport}
 use Rattle.unistore.specs.Schedule.{settings_of}
 use Rattle.unistore.specs.Report.{IsReportOf}
 use Rattle.unistore.proofs.report.report_of_script.Goals as goal

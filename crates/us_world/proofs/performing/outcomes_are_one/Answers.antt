@@ -1,5 +1,0 @@
-use Rattle.us_world.proofs.Outcomes.{outcomes_one}
-use Rattle.us_world.proofs.performing.outcomes_are_one.Goals as goal
-
-pub returns : goal.returns
-returns c = outcomes_one
