@@ -1,5 +1,5 @@
 -- What is kept of a world, and which worlds it stands for.
-use Rattle.std.specs.Prelude.{◌≡◌, ⊤, ℕ, ◌+◌, ◌-◌, ◌<◌, ◌≤◌, ◌==◌, List, ◌++◌, map, Bool, true, false, not, ◌&&◌, slice_get, slice_set, Option, Some}
+use Rattle.std.specs.Prelude.{◌≡◌, ⊤, ℕ, ◌+◌, ◌-◌, List, ◌++◌, map, true, slice_get, slice_set, Option, Some}
 use Rattle.std.specs.Prelude.{None, Result, Ok, Err, OnOk}
 use Rattle.us_peer_wire.specs.declared.message.Packet.{Packet}
 use Rattle.us_model.specs.declared.event.Event.{Event}

@@ -3,7 +3,7 @@ use Rattle.std.specs.Prelude.{length, IfSome}
 use Rattle.us_index.specs.Places.{places_of}
 use Rattle.us_network.specs.declared.sent.Sent.{Sent}
 use Rattle.us_network.specs.declared.sent.Pair.{Pair}
-use Rattle.us_network.specs.Packets.{IsLeastDue, pair_eq, places_between, AllPassed, is_passed}
+use Rattle.us_network.specs.Packets.{IsLeastDue, pair_eq, places_between, AllPassed}
 use Rattle.us_network.proofs.Due.{least_due_is, place_within}
 use Rattle.us_network.proofs.Kept.{front_set}
 use Rattle.us_network.proofs.network.Network.next_due.Goals as goal
