@@ -1,5 +1,6 @@
 -- The least undelivered packet between two sites is the first of their places that isn't delivered.
-use Rattle.std.proofs.Common.{◌≡◌, ◌∙◌, ℕ, zero, suc, ◌+◌, ◌<◌, ◌≤◌, List, [], ◌∷◌, map, Bool, true, false, cond, Option, Some, None, refl, sym, ap, subst, arith, length}
+use Rattle.std.proofs.Common.{◌≡◌, ◌∙◌, ℕ, zero, suc, ◌+◌, ◌<◌, ◌≤◌, List, [], ◌∷◌, map, Bool, true, false, cond}
+use Rattle.std.proofs.Common.{Option, Some, None, refl, sym, ap, subst, arith, length}
 use Rattle.std.specs.Prelude.{◌&&◌, ◌==◌, not, slice_get, IfSome}
 use Rattle.std.proofs.lemmas.Bool.{cond-true, cond-false}
 use Rattle.us_model.specs.Worlds.{is_delivered, least_due}

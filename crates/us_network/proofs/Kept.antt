@@ -1,5 +1,6 @@
 -- What is kept of the pairs goes along with the packets.
-use Rattle.std.proofs.Common.{◌≡◌, ◌∙◌, ℕ, zero, suc, ◌+◌, ◌<◌, List, [], ◌∷◌, ◌++◌, length, Bool, true, false, cond, Some, refl, sym, ap, subst, arith, get_or, add-one}
+use Rattle.std.proofs.Common.{◌≡◌, ◌∙◌, ℕ, zero, suc, ◌+◌, ◌<◌, List, [], ◌∷◌, ◌++◌, length, Bool, true, false, cond}
+use Rattle.std.proofs.Common.{Some, refl, sym, ap, subst, arith, get_or, add-one}
 use Rattle.std.proofs.lemmas.Bool.Decides.{nat_tests}
 use Rattle.std.specs.Prelude.{◌&&◌, ◌==◌, slice_get, slice_set, slice_index_or}
 use Rattle.std.proofs.lemmas.Option.{slice_get-get_or}
@@ -9,7 +10,8 @@ use Rattle.us_index.specs.Places.{places_of}
 use Rattle.us_network.specs.declared.sent.Sent.{Sent}
 use Rattle.us_network.specs.declared.sent.Pair.{Pair}
 use Rattle.us_network.specs.declared.fronts.Front.{Front}
-use Rattle.us_network.specs.Packets.{packet_of, is_marked_at, IsDelivered, pair_of, pair_eq, pairs_of, places_between, is_passed, AllPassed, IsFront, AreFronts, IsIndexed}
+use Rattle.us_network.specs.Packets.{packet_of, is_marked_at, IsDelivered, pair_of, pair_eq, pairs_of, places_between, is_passed}
+use Rattle.us_network.specs.Packets.{AllPassed, IsFront, AreFronts, IsIndexed}
 
 -- ONE MORE WAS PASSED
 pub passed_more : (sent : List Sent) (n : ℕ) (places : List ℕ) → AllPassed sent n places → is_passed sent (slice_get places n) ≡ true
@@ -49,7 +51,8 @@ places-append p k (x ∷ xs) ys =
     on true rest = ap (λ ps. k ∷ ps) rest
     on false rest = rest
 
-places-more : (q : Pair) (sent more : List Sent) → places_between q (sent ++ more) ≡ places_between q sent ++ places_of (λ k. pair_eq k q) (0 + length (pairs_of sent)) (pairs_of more)
+places-more : (q : Pair) (sent more : List Sent) → places_between q (sent ++ more)
+    ≡ places_between q sent ++ places_of (λ k. pair_eq k q) (0 + length (pairs_of sent)) (pairs_of more)
 places-more q sent more =
     ap (places_of (λ k. pair_eq k q) 0) (map-append (λ (s : Sent). pair_of s.packet) sent more)
     ∙ places-append (λ k. pair_eq k q) 0 (pairs_of sent) (pairs_of more)
@@ -77,14 +80,16 @@ indexed_more sent next keys more fronts s h one key =
     })
 
 -- A MARK
-pairs-set : (sent : List Sent) (place : ℕ) (s t : Sent) → slice_get sent place ≡ Some s → t.packet ≡ s.packet → pairs_of (slice_set sent place t) ≡ pairs_of sent
+pairs-set : (sent : List Sent) (place : ℕ) (s t : Sent) → slice_get sent place ≡ Some s → t.packet ≡ s.packet
+    → pairs_of (slice_set sent place t) ≡ pairs_of sent
 pairs-set [] place s t e same = refl
 pairs-set (u ∷ us) zero s t e same =
     let is : u ≡ s = cc in
     ap (λ p. pair_of p ∷ pairs_of us) (same ∙ ap packet_of (sym is))
 pairs-set (u ∷ us) (suc place) s t e same = ap (λ ps. pair_of u.packet ∷ ps) (pairs-set us place s t e same)
 
-marked-set : (sent : List Sent) (at : ℕ) (t : Sent) → t.delivered ≡ true → (place : ℕ) → is_marked_at sent place ≡ true → is_marked_at (slice_set sent at t) place ≡ true
+marked-set : (sent : List Sent) (at : ℕ) (t : Sent) → t.delivered ≡ true → (place : ℕ) → is_marked_at sent place ≡ true
+    → is_marked_at (slice_set sent at t) place ≡ true
 marked-set [] at t d place h = h
 marked-set (u ∷ us) zero t d zero h = d
 marked-set (u ∷ us) zero t d (suc place) h = h
@@ -118,7 +123,8 @@ delivered_is old place r m packet within here there is =
     record { sent = m; at = second; is = is ∙ ap packet_of same; marked = refl }
 
 -- A FRONT IS READ AND SET
-pub front_at : (sent : List Sent) (fronts : List Front) (i : ℕ) (f : Front) → i < length fronts → AreFronts sent fronts → IsFront sent (slice_index_or fronts i f)
+pub front_at : (sent : List Sent) (fronts : List Front) (i : ℕ) (f : Front) → i < length fronts → AreFronts sent fronts
+    → IsFront sent (slice_index_or fronts i f)
 front_at sent [] i f within h = absurd (omega arith)
 front_at sent (g ∷ gs) zero f within h = h.0
 front_at sent (g ∷ gs) (suc i) f within h = front_at sent gs i f (omega arith) h.1

@@ -17,7 +17,8 @@ use Rattle.us_world.specs.declared.fault.WorldFault.{WorldFault}
 use Rattle.us_world.specs.declared.fault.WorldFault.TheVariants as fault
 use Rattle.us_world.specs.Limits.{past_limits, opened_in, begun_in}
 
--- the sites from 1, all packets ever sent with a mark at those that were delivered, what was told, and how many events, opened sessions and begun transactions there were
+-- the sites from 1, all packets ever sent with a mark at those that were delivered, what was told, and how many events,
+-- opened sessions and begun transactions there were
 pub record WorldState : Type 0 where
   pub sites : List Site
   pub sent : List Sent

@@ -17,7 +17,8 @@ invariant_of-self c =
       pairs = c.self.invariant.pairs;
       passed =
           front_set sent c.self.inside.fronts c.front_of.result _
-          (subst (λ ps. AllPassed sent c.pass-passed.result ps) are (subst (λ ss. AllPassed ss c.pass-passed.result c.of-places.result.now) c.as_slice-2.ensures.value c.pass-passed.ensures.all))
+          (subst (λ ps. AllPassed sent c.pass-passed.result ps) are
+          (subst (λ ss. AllPassed ss c.pass-passed.result c.of-places.result.now) c.as_slice-2.ensures.value c.pass-passed.ensures.all))
           c.self.invariant.passed;
     }
 
