@@ -84,7 +84,8 @@ built_rest left rest l b is = (subst AllBuilt is b).1
 
 -- THE REPORT
 -- what is told of the world of the lines three times is told of one world
-pub report_is : (settings : Settings) (lines : List Line) (execution : Execution) (refused : List RefusedRequest) (waiting : List WaitingRequest) → OutcomesAreOne
+pub report_is : (settings : Settings) (lines : List Line) (execution : Execution) (refused : List RefusedRequest) (waiting : List WaitingRequest)
+    → OutcomesAreOne
     → OfWorld settings lines (λ w. execution ≡ execution_of w.notes)
     → OfWorld settings lines (λ w. refused ≡ refusals_of w.notes)
     → OfWorld settings lines (λ w. waiting ≡ waits_of w.sites)

@@ -1,12 +1,13 @@
 -- The least undelivered packet between two sites is the first of their places that isn't delivered.
-use Rattle.std.proofs.Common.{◌≡◌, ◌∙◌, ℕ, zero, suc, ◌+◌, ◌<◌, ◌≤◌, List, [], ◌∷◌, map, Bool, true, false, cond, Option, Some, None, refl, sym, ap, subst, arith, length}
+use Rattle.std.proofs.Common.{◌≡◌, ◌∙◌, ℕ, zero, suc, ◌+◌, ◌<◌, ◌≤◌, List, [], ◌∷◌, map, Bool, true, false, cond}
+use Rattle.std.proofs.Common.{Option, Some, None, refl, sym, ap, subst, arith, length}
 use Rattle.std.specs.Prelude.{◌&&◌, ◌==◌, not, slice_get, IfSome}
 use Rattle.std.proofs.lemmas.Bool.{cond-true, cond-false}
-use Rattle.us_model.specs.Worlds.{is_delivered, is_due, least_due}
+use Rattle.us_model.specs.Worlds.{is_delivered, least_due}
 use Rattle.us_index.specs.Places.{places_of}
 use Rattle.us_network.specs.declared.sent.Sent.{Sent}
 use Rattle.us_network.specs.declared.sent.Pair.{Pair}
-use Rattle.us_network.specs.Packets.{packet_of, is_marked_at, AreDelivered, number_of, IsLeastDue, pair_of, pair_eq, pairs_of, places_between, is_passed, AllPassed}
+use Rattle.us_network.specs.Packets.{packet_of, is_marked_at, number_of, IsLeastDue, pair_of, pair_eq, pairs_of, places_between, is_passed, AllPassed}
 
 -- the first place without a mark
 abbrev first_open : (ℕ → Bool) → List ℕ → Option ℕ

@@ -1,5 +1,6 @@
 -- What is kept of the pairs goes along with the packets.
-use Rattle.std.proofs.Common.{◌≡◌, ◌∙◌, ℕ, zero, suc, ◌+◌, ◌<◌, List, [], ◌∷◌, ◌++◌, length, map, Bool, true, false, cond, Option, Some, None, refl, sym, ap, subst, arith, get_or, add-one}
+use Rattle.std.proofs.Common.{◌≡◌, ◌∙◌, ℕ, zero, suc, ◌+◌, ◌<◌, List, [], ◌∷◌, ◌++◌, length, Bool, true, false, cond}
+use Rattle.std.proofs.Common.{Some, refl, sym, ap, subst, arith, get_or, add-one}
 use Rattle.std.proofs.lemmas.Bool.Decides.{nat_tests}
 use Rattle.std.specs.Prelude.{◌&&◌, ◌==◌, slice_get, slice_set, slice_index_or}
 use Rattle.std.proofs.lemmas.Option.{slice_get-get_or}
@@ -9,7 +10,8 @@ use Rattle.us_index.specs.Places.{places_of}
 use Rattle.us_network.specs.declared.sent.Sent.{Sent}
 use Rattle.us_network.specs.declared.sent.Pair.{Pair}
 use Rattle.us_network.specs.declared.fronts.Front.{Front}
-use Rattle.us_network.specs.Packets.{packet_of, fresh, is_marked, is_marked_at, IsDelivered, pair_of, pair_eq, pairs_of, places_between, is_passed, AllPassed, IsFront, AreFronts, IsIndexed}
+use Rattle.us_network.specs.Packets.{packet_of, is_marked_at, IsDelivered, pair_of, pair_eq, pairs_of, places_between, is_passed}
+use Rattle.us_network.specs.Packets.{AllPassed, IsFront, AreFronts, IsIndexed}
 
 -- ONE MORE WAS PASSED
 pub passed_more : (sent : List Sent) (n : ℕ) (places : List ℕ) → AllPassed sent n places → is_passed sent (slice_get places n) ≡ true
@@ -49,7 +51,8 @@ places-append p k (x ∷ xs) ys =
     on true rest = ap (λ ps. k ∷ ps) rest
     on false rest = rest
 
-places-more : (q : Pair) (sent more : List Sent) → places_between q (sent ++ more) ≡ places_between q sent ++ places_of (λ k. pair_eq k q) (0 + length (pairs_of sent)) (pairs_of more)
+places-more : (q : Pair) (sent more : List Sent) → places_between q (sent ++ more)
+    ≡ places_between q sent ++ places_of (λ k. pair_eq k q) (0 + length (pairs_of sent)) (pairs_of more)
 places-more q sent more =
     ap (places_of (λ k. pair_eq k q) 0) (map-append (λ (s : Sent). pair_of s.packet) sent more)
     ∙ places-append (λ k. pair_eq k q) 0 (pairs_of sent) (pairs_of more)
@@ -61,13 +64,12 @@ marked-more (s ∷ ss) more (suc place) h = marked-more ss more place h
 
 fronts-more : (sent more : List Sent) (fronts : List Front) → AreFronts sent fronts → AreFronts (sent ++ more) fronts
 fronts-more sent more [] h = tt
-fronts-more sent more (f ∷ fs) h =
-    (
-      subst (λ ps. AllPassed (sent ++ more) f.passed ps) (sym (places-more f.pair sent more))
-          (passed-kept sent (sent ++ more) (marked-more sent more) f.passed (places_between f.pair sent)
-          (places_of (λ k. pair_eq k f.pair) (0 + length (pairs_of sent)) (pairs_of more)) h.0),
-      fronts-more sent more fs h.1,
-    )
+fronts-more sent more (f ∷ fs) h = (
+  subst (λ ps. AllPassed (sent ++ more) f.passed ps) (sym (places-more f.pair sent more))
+      (passed-kept sent (sent ++ more) (marked-more sent more) f.passed (places_between f.pair sent)
+      (places_of (λ k. pair_eq k f.pair) (0 + length (pairs_of sent)) (pairs_of more)) h.0),
+  fronts-more sent more fs h.1,
+)
 
 pub indexed_more : (sent next : List Sent) (keys more : List Pair) (fronts : List Front) (s : Sent) → IsIndexed sent keys fronts → next ≡ sent ++ s ∷ []
     → more ≡ keys ++ pair_of s.packet ∷ [] → IsIndexed next more fronts
@@ -78,14 +80,16 @@ indexed_more sent next keys more fronts s h one key =
     })
 
 -- A MARK
-pairs-set : (sent : List Sent) (place : ℕ) (s t : Sent) → slice_get sent place ≡ Some s → t.packet ≡ s.packet → pairs_of (slice_set sent place t) ≡ pairs_of sent
+pairs-set : (sent : List Sent) (place : ℕ) (s t : Sent) → slice_get sent place ≡ Some s → t.packet ≡ s.packet
+    → pairs_of (slice_set sent place t) ≡ pairs_of sent
 pairs-set [] place s t e same = refl
 pairs-set (u ∷ us) zero s t e same =
     let is : u ≡ s = cc in
     ap (λ p. pair_of p ∷ pairs_of us) (same ∙ ap packet_of (sym is))
 pairs-set (u ∷ us) (suc place) s t e same = ap (λ ps. pair_of u.packet ∷ ps) (pairs-set us place s t e same)
 
-marked-set : (sent : List Sent) (at : ℕ) (t : Sent) → t.delivered ≡ true → (place : ℕ) → is_marked_at sent place ≡ true → is_marked_at (slice_set sent at t) place ≡ true
+marked-set : (sent : List Sent) (at : ℕ) (t : Sent) → t.delivered ≡ true → (place : ℕ) → is_marked_at sent place ≡ true
+    → is_marked_at (slice_set sent at t) place ≡ true
 marked-set [] at t d place h = h
 marked-set (u ∷ us) zero t d zero h = d
 marked-set (u ∷ us) zero t d (suc place) h = h
@@ -95,12 +99,11 @@ marked-set (u ∷ us) (suc at) t d (suc place) h = marked-set us at t d place h
 fronts-set : (old new : List Sent) → pairs_of new ≡ pairs_of old → ((place : ℕ) → is_marked_at old place ≡ true → is_marked_at new place ≡ true)
     → (fronts : List Front) → AreFronts old fronts → AreFronts new fronts
 fronts-set old new same keeps [] h = tt
-fronts-set old new same keeps (f ∷ fs) h =
-    (
-      subst (λ ks. AllPassed new f.passed (places_of (λ k. pair_eq k f.pair) 0 ks)) (sym same)
-          (passed-same old new keeps f.passed (places_between f.pair old) h.0),
-      fronts-set old new same keeps fs h.1,
-    )
+fronts-set old new same keeps (f ∷ fs) h = (
+  subst (λ ks. AllPassed new f.passed (places_of (λ k. pair_eq k f.pair) 0 ks)) (sym same)
+      (passed-same old new keeps f.passed (places_between f.pair old) h.0),
+  fronts-set old new same keeps fs h.1,
+)
 
 pub indexed_marked : (old new : List Sent) (keys : List Pair) (fronts : List Front) (place : ℕ) (s t : Sent) → IsIndexed old keys fronts
     → slice_get old place ≡ Some s → t.packet ≡ s.packet → t.delivered ≡ true → new ≡ slice_set old place t → IsIndexed new keys fronts
@@ -120,7 +123,8 @@ delivered_is old place r m packet within here there is =
     record { sent = m; at = second; is = is ∙ ap packet_of same; marked = refl }
 
 -- A FRONT IS READ AND SET
-pub front_at : (sent : List Sent) (fronts : List Front) (i : ℕ) (f : Front) → i < length fronts → AreFronts sent fronts → IsFront sent (slice_index_or fronts i f)
+pub front_at : (sent : List Sent) (fronts : List Front) (i : ℕ) (f : Front) → i < length fronts → AreFronts sent fronts
+    → IsFront sent (slice_index_or fronts i f)
 front_at sent [] i f within h = absurd (omega arith)
 front_at sent (g ∷ gs) zero f within h = h.0
 front_at sent (g ∷ gs) (suc i) f within h = front_at sent gs i f (omega arith) h.1

@@ -1,5 +1,5 @@
 -- What is kept of a world, and which worlds it stands for.
-use Rattle.std.specs.Prelude.{◌≡◌, ⊤, ℕ, ◌+◌, ◌-◌, ◌<◌, ◌≤◌, ◌==◌, List, ◌++◌, map, Bool, true, false, not, ◌&&◌, slice_get, slice_set, Option, Some}
+use Rattle.std.specs.Prelude.{◌≡◌, ⊤, ℕ, ◌+◌, ◌-◌, List, ◌++◌, map, true, slice_get, slice_set, Option, Some}
 use Rattle.std.specs.Prelude.{None, Result, Ok, Err, OnOk}
 use Rattle.us_peer_wire.specs.declared.message.Packet.{Packet}
 use Rattle.us_model.specs.declared.event.Event.{Event}
@@ -17,7 +17,8 @@ use Rattle.us_world.specs.declared.fault.WorldFault.{WorldFault}
 use Rattle.us_world.specs.declared.fault.WorldFault.TheVariants as fault
 use Rattle.us_world.specs.Limits.{past_limits, opened_in, begun_in}
 
--- the sites from 1, all packets ever sent with a mark at those that were delivered, what was told, and how many events, opened sessions and begun transactions there were
+-- the sites from 1, all packets ever sent with a mark at those that were delivered, what was told, and how many events,
+-- opened sessions and begun transactions there were
 pub record WorldState : Type 0 where
   pub sites : List Site
   pub sent : List Sent

@@ -2,7 +2,6 @@
 #![tactic(auto)]
 
 mod fault;
-
 mod run;
 mod uniqueness;
 mod world;

@@ -1,4 +1,4 @@
-use Rattle.std.proofs.Common.{◌≡◌, ◌∙◌, ◌<◌, List, Some, sym, ap, subst, refl, length, slice_get, slice_set, true}
+use Rattle.std.proofs.Common.{◌∙◌, ◌<◌, List, Some, sym, ap, subst, refl, length, slice_set, true}
 use Rattle.std.proofs.lemmas.Option.{slice_get-get_or}
 use Rattle.us_network.specs.declared.sent.Sent.{Sent}
 use Rattle.us_network.specs.Packets.{IsDelivered}

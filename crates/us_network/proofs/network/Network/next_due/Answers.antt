@@ -3,7 +3,7 @@ use Rattle.std.specs.Prelude.{length, IfSome}
 use Rattle.us_index.specs.Places.{places_of}
 use Rattle.us_network.specs.declared.sent.Sent.{Sent}
 use Rattle.us_network.specs.declared.sent.Pair.{Pair}
-use Rattle.us_network.specs.Packets.{IsLeastDue, pair_eq, places_between, AllPassed, is_passed}
+use Rattle.us_network.specs.Packets.{IsLeastDue, pair_eq, places_between, AllPassed}
 use Rattle.us_network.proofs.Due.{least_due_is, place_within}
 use Rattle.us_network.proofs.Kept.{front_set}
 use Rattle.us_network.proofs.network.Network.next_due.Goals as goal
@@ -17,7 +17,8 @@ invariant_of-self c =
       pairs = c.self.invariant.pairs;
       passed =
           front_set sent c.self.inside.fronts c.front_of.result _
-          (subst (λ ps. AllPassed sent c.pass-passed.result ps) are (subst (λ ss. AllPassed ss c.pass-passed.result c.of-places.result.now) c.as_slice-2.ensures.value c.pass-passed.ensures.all))
+          (subst (λ ps. AllPassed sent c.pass-passed.result ps) are
+          (subst (λ ss. AllPassed ss c.pass-passed.result c.of-places.result.now) c.as_slice-2.ensures.value c.pass-passed.ensures.all))
           c.self.invariant.passed;
     }
 

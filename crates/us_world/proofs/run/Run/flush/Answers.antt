@@ -1,6 +1,4 @@
-use Rattle.std.proofs.Common.{Some, subst}
 use Rattle.std.proofs.lemmas.Result.{err_from_is_err_and}
-use Rattle.us_network.specs.Packets.{IsLeastDue}
 use Rattle.us_world.proofs.Flushing.{delivered_more, delivered_stops, delivered_all}
 use Rattle.us_world.proofs.run.Run.flush.Goals as goal
 

@@ -10,7 +10,8 @@ invariant_of-result c =
     let settings = c.args.settings.now in
     let run = c.in_ok-new.field-0 in
     subst (λ (s : Settings). HasReached s c.new.result.items run) (sym c.in_ok-copy.ensures)
-    (subst (λ (ls : List Line). HasReached settings ls run) (sym c.new.ensures.items) (reached_none settings run c.in_ok-new.ensures.start c.in_ok-new.ensures.events))
+    (subst (λ (ls : List Line). HasReached settings ls run) (sym c.new.ensures.items)
+    (reached_none settings run c.in_ok-new.ensures.start c.in_ok-new.ensures.events))
 
 pub returns : goal.returns
 returns c =
