@@ -4,7 +4,8 @@ use Rattle.us_site.proofs.site.step_shards.Goals as goal
 
 pub step-requires-clause-here : goal.step-requires-clause-here
 step-requires-clause-here c =
-    stands c.args.settings.now.shape c.args.number 1 c.actor_in-actor.result (c.from-2.result - 1) c.args.shards.now _ c.requires.places (omega arith) (omega arith)
+    stands c.args.settings.now.shape c.args.number 1 c.actor_in-actor.result (c.from-2.result - 1) c.args.shards.now _ c.requires.places
+    (omega arith) (omega arith)
 
 pub returns-clause-shards : goal.returns-clause-shards
 returns-clause-shards c =
