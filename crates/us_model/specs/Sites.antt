@@ -69,7 +69,8 @@ answer_to me from m = record { from = me; to = from; message = m }
 abbrev pub take_message : Actor → Shape → Actor → ActorStep → Message → ActorStep
 take_message me shape from w (message.Get tid place at snapshot item op own) =
     with_partition w
-    (get shape.parts me w.shard.partition (record { from = from.actor; tid = tid; place = place; at = at; snapshot = snapshot; item = item; op = op; own = own })) []
+    (get shape.parts me w.shard.partition (record
+    { from = from.actor; tid = tid; place = place; at = at; snapshot = snapshot; item = item; op = op; own = own })) []
 take_message me shape from w (message.Version v) = all_sessions (version v) me shape w
 take_message me shape from w (message.Prepare tid snapshot writes) =
     if may_prepare shape.parts me w.shard.partition tid snapshot writes
