@@ -1,5 +1,5 @@
 -- In which order a coordinator keeps its sessions, and the turn of one of them.
-use Rattle.std.specs.Prelude.{◌≡◌, ℕ, zero, suc, ◌<◌, ◌≤◌, List, [], ◌∷◌, length, false, if◌then◌else◌, slice_index_or, slice_set, remove}
+use Rattle.std.specs.Prelude.{◌≡◌, ℕ, ◌<◌, ◌≤◌, List, [], ◌∷◌, length, false, if◌then◌else◌, slice_index_or, slice_set, remove}
 use Rattle.us_kind.specs.Updates.{All}
 use Rattle.us_model.specs.declared.coordinator.Session.{Session}
 use Rattle.us_model.specs.declared.coordinator.Context.{Context}

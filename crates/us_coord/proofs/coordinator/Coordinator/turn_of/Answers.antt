@@ -1,9 +1,7 @@
-use Rattle.std.proofs.Common.{◌≡◌, get_or, refl, ap, sym, subst, ◌∙◌, rules}
-use Rattle.std.proofs.lemmas.List.{get_or_default}
+use Rattle.std.proofs.Common.{◌≡◌, refl, ap, sym, subst, ◌∙◌, rules}
 use Rattle.us_model.specs.State.{Coordinator}
-use Rattle.us_model.specs.declared.coordinator.Session.{Session}
 use Rattle.us_model.specs.declared.coordinator.Context.{Context}
-use Rattle.us_model.specs.Coordinators.{Coordinated, new_session, context_of, each_acts}
+use Rattle.us_model.specs.Coordinators.{Coordinated, context_of, each_acts}
 use Rattle.us_coord.specs.Order.{InOrder, StandsAt, Concerns}
 use Rattle.us_coord.specs.Steps.{acts}
 use Rattle.us_coord.proofs.Acts.{acts-number}
