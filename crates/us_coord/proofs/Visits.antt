@@ -211,3 +211,20 @@ turn_in_order f same high n i d d' ss ss' h at turn =
     let number : n ≡ (f d s).session.number = sym (at.1 (new_session 0)) ∙ sym (same d s) in
     subst (λ xs. InOrder 0 xs high) (sym (turn.sessions s is))
     (in_order_put_back 0 high ss i (f d s).session (subst (λ m. StandsAt m ss i) number at) h)
+
+-- the same of a coordinator that is known by what is inside it
+pub given_acts : (f : Context → Session → SessionStep) (v : View) (k c : Coordinator) (out : Outputs) (n i : ℕ) (d d' : Context) (ss ss' : List Session)
+    → k ≡ c
+    → InOrder 0 k.sessions k.opens
+    → StandsAt n c.sessions i
+    → Concerns f n c.sessions
+    → d ≡ context_of v k out
+    → ss ≡ k.sessions
+    → TurnAt f d ss i d' ss'
+    → record { coordinator = record k { seq = d'.seq; sessions = ss' }; out = d'.out } ≡ each_acts f v c out
+given_acts f v k c out n i d d' ss ss' inside h at quiet of_view taken turn =
+    let at' = subst (λ (x : Coordinator). StandsAt n x.sessions i) (sym inside) at in
+    let quiet' = subst (λ (x : Coordinator). Concerns f n x.sessions) (sym inside) quiet in
+    let here = subst (λ (x : Context). TurnAt f x ss i d' ss') of_view turn in
+    let there = subst (λ xs. TurnAt f (context_of v k out) xs i d' ss') taken here in
+    turn_acts f v k out n i d' ss' h at' quiet' there ∙ ap (λ (x : Coordinator). each_acts f v x out) inside
