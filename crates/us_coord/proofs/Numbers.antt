@@ -77,11 +77,13 @@ resumed-number spaces s now rest e f = on (is_nothing now.session.waits)
     on true = f ∙ e
     on false = e
 
-run_requests-number : (spaces : Spaces) (d : Context) (s : Session) (requests : List QueuedRequest) → (run_requests spaces d s requests).session.number ≡ s.number
+run_requests-number : (spaces : Spaces) (d : Context) (s : Session) (requests : List QueuedRequest)
+    → (run_requests spaces d s requests).session.number ≡ s.number
 run_requests-number spaces d s [] = refl
 run_requests-number spaces d s (a ∷ rest) =
     let now = request spaces d (record s { requests = rest }) a.at a.request in
-    resumed-number spaces s now rest (request-number spaces d (record s { requests = rest }) a.at a.request) (run_requests-number spaces now.context now.session rest)
+    resumed-number spaces s now rest (request-number spaces d (record s { requests = rest }) a.at a.request)
+    (run_requests-number spaces now.context now.session rest)
 
 pub run_session-number : (spaces : Spaces) (d : Context) (s : Session) → (run_session spaces d s).session.number ≡ s.number
 unfolding run_session
