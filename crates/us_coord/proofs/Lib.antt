@@ -1,5 +1,6 @@
 pub mod Acts
 pub mod Concerned
+pub mod Counts
 pub mod EachSession
 pub mod Loops
 pub mod Numbers

@@ -1,5 +1,5 @@
 -- No rule of a session changes its number.
-use Rattle.std.proofs.Common.{◌≡◌, ℕ, ◌+◌, List, [], ◌∷◌, ◌++◌, Bool, true, false, ◌&&◌, refl, ◌∙◌}
+use Rattle.std.proofs.Common.{◌≡◌, ℕ, List, [], ◌∷◌, ◌++◌, Bool, true, false, ◌&&◌, refl, ◌∙◌}
 use Rattle.std.specs.Prelude.{Option, Some, None, if◌then◌else◌, nat_lt, nat_le, not, ◌==◌}
 use Rattle.std.specs.List.{list_any}
 use Rattle.us_kind.specs.Comparison.{tid_eq}
@@ -9,13 +9,9 @@ use Rattle.us_value.specs.declared.item.Write.{Write}
 use Rattle.us_value.specs.declared.operation.Op.{Op}
 use Rattle.us_value.specs.Catalogs.{kind_in}
 use Rattle.us_model.specs.State.{Spaces}
-use Rattle.us_base.specs.declared.shape.Shape.{Shape}
-use Rattle.us_peer_wire.specs.declared.message.Actor.{Actor}
 use Rattle.us_wire.specs.Frames.{Reader, frames_of, fed}
 use Rattle.us_client_wire.specs.declared.frame.Request.{Request}
 use Rattle.us_client_wire.specs.declared.frame.Request.TheVariants.{Begin, Perform, CommitCausal, CommitStrong, Abandon, Barrier, AskToken, Attach}
-use Rattle.us_client_wire.specs.declared.frame.Reply.{Reply}
-use Rattle.us_client_wire.specs.declared.frame.Reply.TheVariants as reply
 use Rattle.us_client_wire.specs.Requests.{request_of}
 use Rattle.us_peer_wire.specs.declared.message.Version.{Version}
 use Rattle.us_peer_wire.specs.declared.message.Form.{Form}
@@ -29,7 +25,7 @@ use Rattle.us_model.specs.declared.coordinator.Await.{Await}
 use Rattle.us_model.specs.declared.coordinator.Await.TheVariants as waits
 use Rattle.us_model.specs.declared.coordinator.Session.{Session}
 use Rattle.us_model.specs.declared.coordinator.Context.{Context}
-use Rattle.us_model.specs.Sessions.{SessionStep, stays, tell, with_client, reply_out, with_packets, commits, partitions_written, objection}
+use Rattle.us_model.specs.Sessions.{SessionStep, stays, objection}
 use Rattle.us_model.specs.Sessions.{begin, perform, commit_causal, abandon, request, performed, refused, committing, is_nothing, resume}
 use Rattle.us_model.specs.Sessions.{run_requests, run_session, closes_in, close, left, malformed, is_built, unanswered, joins, next_frame, framed}
 use Rattle.us_model.specs.Sessions.{framed_in, take_frames, unless_closed, bytes, read_on, version, version_in, write_of, writes_length}
@@ -81,11 +77,13 @@ resumed-number spaces s now rest e f = on (is_nothing now.session.waits)
     on true = f ∙ e
     on false = e
 
-run_requests-number : (spaces : Spaces) (d : Context) (s : Session) (requests : List QueuedRequest) → (run_requests spaces d s requests).session.number ≡ s.number
+run_requests-number : (spaces : Spaces) (d : Context) (s : Session) (requests : List QueuedRequest)
+    → (run_requests spaces d s requests).session.number ≡ s.number
 run_requests-number spaces d s [] = refl
 run_requests-number spaces d s (a ∷ rest) =
     let now = request spaces d (record s { requests = rest }) a.at a.request in
-    resumed-number spaces s now rest (request-number spaces d (record s { requests = rest }) a.at a.request) (run_requests-number spaces now.context now.session rest)
+    resumed-number spaces s now rest (request-number spaces d (record s { requests = rest }) a.at a.request)
+    (run_requests-number spaces now.context now.session rest)
 
 pub run_session-number : (spaces : Spaces) (d : Context) (s : Session) → (run_session spaces d s).session.number ≡ s.number
 unfolding run_session

@@ -6,14 +6,13 @@ use Rattle.std.specs.List.{AllWithin}
 use Rattle.std.specs.List.Sorted.{IsPartitionedBy}
 use Rattle.std.proofs.lemmas.Bool.{ltb-true, ltb-false, lt-ltb}
 use Rattle.std.proofs.lemmas.List.{get_or_default}
-use Rattle.us_kind.specs.Updates.{All}
 use Rattle.us_model.specs.declared.coordinator.Session.{Session}
 use Rattle.us_model.specs.declared.coordinator.Context.{Context}
 use Rattle.us_model.specs.declared.coordinator.View.{View}
 use Rattle.us_model.specs.declared.event.Outputs.{Outputs}
 use Rattle.us_model.specs.State.{Coordinator}
-use Rattle.us_model.specs.Sessions.{SessionStep, stays}
-use Rattle.us_model.specs.Coordinators.{SessionsStep, Coordinated, each_session, and_rest, in_front, remembered, is_over, new_session}
+use Rattle.us_model.specs.Sessions.{SessionStep}
+use Rattle.us_model.specs.Coordinators.{each_session, and_rest, in_front, remembered, is_over, new_session}
 use Rattle.us_model.specs.Coordinators.{context_of, with_sessions, each_acts}
 use Rattle.us_coord.specs.Order.{InOrder, StandsAt, Absent, Concerns, put_back}
 
@@ -105,10 +104,11 @@ absent_at low high n (s ∷ ss) zero h front back other =
     (no, above_absent s.number high n ss above h.1.1)
 absent_at low high n (s ∷ ss) (suc i) h front back other =
     let below = front 0 s (omega arith) (omega arith) in
-    let less : s.number < n = ltb-true _ _ below in
-    (λ e. omega (arith, e, less),
-        absent_at s.number high n ss i h.1.1 (λ k d low' high'. front (suc k) d (omega arith) (omega arith))
-        (λ k d low' high'. back (suc k) d (omega arith) (omega arith)) (λ d less'. other d (omega (arith, less'))))
+    let less : s.number < n = ltb-true _ _ below in (
+      λ e. omega (arith, e, less),
+      absent_at s.number high n ss i h.1.1 (λ k d low' high'. front (suc k) d (omega arith) (omega arith))
+          (λ k d low' high'. back (suc k) d (omega arith) (omega arith)) (λ d less'. other d (omega (arith, less'))),
+    )
 
 -- NOTHING CHANGES WHERE NO SESSION HAS THE NUMBER
 pub absent_each : (f : Context → Session → SessionStep) (d : Context) (n : ℕ) (ss : List Session) → Absent n ss → Concerns f n ss
@@ -171,8 +171,8 @@ pub present_acts : (f : Context → Session → SessionStep) (v : View) (c : Coo
     → s ≡ get_or c.sessions i s
     → Concerns f n c.sessions
     → each_acts f v c out ≡ record {
-        coordinator = record c { seq = (f (context_of v c out) s).context.seq; sessions = put_back c.sessions i (f (context_of v c out) s).session };
-        out = (f (context_of v c out) s).context.out;
+      coordinator = record c { seq = (f (context_of v c out) s).context.seq; sessions = put_back c.sessions i (f (context_of v c out) s).session };
+      out = (f (context_of v c out) s).context.out;
     }
 present_acts f v c out n low high i s h at is quiet =
     let d = context_of v c out in
@@ -211,3 +211,20 @@ turn_in_order f same high n i d d' ss ss' h at turn =
     let number : n ≡ (f d s).session.number = sym (at.1 (new_session 0)) ∙ sym (same d s) in
     subst (λ xs. InOrder 0 xs high) (sym (turn.sessions s is))
     (in_order_put_back 0 high ss i (f d s).session (subst (λ m. StandsAt m ss i) number at) h)
+
+-- the same of a coordinator that is known by what is inside it
+pub given_acts : (f : Context → Session → SessionStep) (v : View) (k c : Coordinator) (out : Outputs) (n i : ℕ) (d d' : Context) (ss ss' : List Session)
+    → k ≡ c
+    → InOrder 0 k.sessions k.opens
+    → StandsAt n c.sessions i
+    → Concerns f n c.sessions
+    → d ≡ context_of v k out
+    → ss ≡ k.sessions
+    → TurnAt f d ss i d' ss'
+    → record { coordinator = record k { seq = d'.seq; sessions = ss' }; out = d'.out } ≡ each_acts f v c out
+given_acts f v k c out n i d d' ss ss' inside h at quiet of_view taken turn =
+    let at' = subst (λ (x : Coordinator). StandsAt n x.sessions i) (sym inside) at in
+    let quiet' = subst (λ (x : Coordinator). Concerns f n x.sessions) (sym inside) quiet in
+    let here = subst (λ (x : Context). TurnAt f x ss i d' ss') of_view turn in
+    let there = subst (λ xs. TurnAt f (context_of v k out) xs i d' ss') taken here in
+    turn_acts f v k out n i d' ss' h at' quiet' there ∙ ap (λ (x : Coordinator). each_acts f v x out) inside

@@ -1,5 +1,5 @@
 -- In which order a coordinator keeps its sessions, and the turn of one of them.
-use Rattle.std.specs.Prelude.{◌≡◌, ℕ, zero, suc, ◌<◌, ◌≤◌, List, [], ◌∷◌, length, false, if◌then◌else◌, slice_index_or, slice_set, remove}
+use Rattle.std.specs.Prelude.{◌≡◌, ℕ, ◌<◌, ◌≤◌, List, [], ◌∷◌, length, false, if◌then◌else◌, slice_index_or, slice_set, remove}
 use Rattle.us_kind.specs.Updates.{All}
 use Rattle.us_model.specs.declared.coordinator.Session.{Session}
 use Rattle.us_model.specs.declared.coordinator.Context.{Context}
@@ -26,3 +26,7 @@ Concerns f number ss = All (λ s. (s.number ≡ number → ⊥) → (d : Context
 -- the sessions after the turn of the one at this place: it is forgotten where it is over
 abbrev pub put_back : List Session → ℕ → Session → List Session
 put_back ss place s = if is_over s then remove ss place else slice_set ss place s
+
+-- what a session counts among the open ones
+abbrev pub counted : Session → ℕ
+counted s = if s.closed then 0 else 1

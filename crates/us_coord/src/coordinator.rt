@@ -2,7 +2,8 @@
 ghost use Rattle.std.specs.Prelude.{◌≡◌, ◌<◌, ◌++◌, not, nat_lt, None, IfOk, IfSome, IsTrue, OnOk};
 ghost use Rattle.us_base.specs.Shape.{IsShape};
 ghost use Rattle.us_model.specs.Sessions.{bytes, close, version, prepared, run_session};
-ghost use Rattle.us_model.specs.Coordinators.{new_coordinator, each_acts, each_session, new_session, opened, refused_open, is_over, remembered, open_in, waits_in};
+ghost use Rattle.us_model.specs.Coordinators.{new_coordinator, new_session, opened, refused_open, open_in, waits_in};
+ghost use Rattle.us_model.specs.Coordinators.{each_acts, each_session, is_over, remembered};
 ghost use Rattle.us_coord.specs.Order.{StandsAt, Absent, Concerns};
 ghost use Rattle.us_coord.specs.Steps.{acts};
 

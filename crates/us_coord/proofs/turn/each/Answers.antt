@@ -16,8 +16,10 @@ loop-i-preserved c =
     let s = c.index-sessions-i.result in
     let is = c.index-sessions-i.is in
     let d = c.loop-i.context in
-    let context : c.act.new.context ≡ (f d s).context = ap (λ (a : SessionStep). a.context) c.in_ok-act.ensures ∙ ap (λ (x : Session). (f d x).context) (sym is) in
-    let session : c.act.new.session ≡ (f d s).session = ap (λ (a : SessionStep). a.session) c.in_ok-act.ensures ∙ ap (λ (x : Session). (f d x).session) (sym is) in
+    let context : c.act.new.context ≡ (f d s).context = ap (λ (a : SessionStep). a.context) c.in_ok-act.ensures
+    ∙ ap (λ (x : Session). (f d x).context) (sym is) in
+    let session : c.act.new.session ≡ (f d s).session = ap (λ (a : SessionStep). a.session) c.in_ok-act.ensures
+    ∙ ap (λ (x : Session). (f d x).session) (sym is) in
     record {
       post = ap post context ∙ acts-post c.args.turn.now d s ∙ c.loop-i.invariant.post;
       context = each-context f d c.act.new.context s c.act.new.session c.loop-i.sessions c.loop-i.i (omega arith) is context ∙ c.loop-i.invariant.context;

@@ -22,7 +22,8 @@ requests-preserved c =
     record {
       run = ap (λ (a : SessionStep). run_session c.args.catalog.now a.context a.session) e
           ∙ (run-turn c.args.catalog.now c.requests.context c.requests.session c.remove-at.result c.remove-at.new.self w first ∙ c.requests.invariant.run);
-      post = ap (λ (a : SessionStep). post a.context) e ∙ request-post c.args.catalog.now c.requests.context (record c.requests.session { requests = c.remove-at.new.self }) _ _
+      post = ap (λ (a : SessionStep). post a.context) e
+          ∙ request-post c.args.catalog.now c.requests.context (record c.requests.session { requests = c.remove-at.new.self }) _ _
           ∙ c.requests.invariant.post;
     }
 

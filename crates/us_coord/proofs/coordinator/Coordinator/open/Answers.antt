@@ -11,4 +11,5 @@ invariant_of-self-2 c =
     let number : c.in_ok-number.number ≡ opens + 1 = c.in_ok-number.ensures in
     let items : c.push-2.new.self.items ≡ ss ++ new_session (opens + 1) ∷ [] =
     c.in_ok-push-2.ensures.items ∙ ap (λ s. ss ++ s ∷ []) (c.session_of.ensures ∙ ap new_session number) in
-    subst (λ n. InOrder 0 c.push-2.new.self.items n) (sym number) (subst (λ xs. InOrder 0 xs (opens + 1)) (sym items) (in_order_push 0 opens ss c.self.invariant))
+    subst (λ n. InOrder 0 c.push-2.new.self.items n) (sym number)
+    (subst (λ xs. InOrder 0 xs (opens + 1)) (sym items) (in_order_push 0 opens ss c.self.invariant))

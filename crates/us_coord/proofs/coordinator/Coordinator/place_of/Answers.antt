@@ -23,13 +23,13 @@ returns-clause-absent c none =
     IsPartitionPoint-from_clause test ss i c.partition_point-place.ensures.partitioned (in_order_parted 0 opens n ss h) (λ a r q k. search rules) in
     let other : (d : Session) → i < length ss → (get_or ss i d).number ≡ n → ⊥ =
     λ d less e. elim c.else-place-len.branch [
-      else-place-len-via-then-place-len+else-index-number w ↦ w.if-index-number.false
-        (ap (λ (s : Session). s.number)
-            (w.index.ensures ∙ ap (λ xs. get_or xs i w.index.result.now) (sym same) ∙ get_or_default ss i w.index.result.now d less)
-            ∙ e)
+      | else-place-len-via-then-place-len+else-index-number w ↦ w.if-index-number.false
+          (ap (λ (s : Session). s.number)
+          (w.index.ensures ∙ ap (λ xs. get_or xs i w.index.result.now) (sym same) ∙ get_or_default ss i w.index.result.now d less)
+          ∙ e)
       | else-place-len-via-else-place-len w ↦
-        let count : length ss ≡ c.len.result = c.as_slice.ensures.len ∙ sym c.len.ensures in
-        let past = w.if-place-len.false in
-        omega (arith, count, past, less)
+          let count : length ss ≡ c.len.result = c.as_slice.ensures.len ∙ sym c.len.ensures in
+          let past = w.if-place-len.false in
+          omega (arith, count, past, less)
     ] in
     subst (Absent n) (same ∙ ap (λ (k : Coordinator). k.sessions) c.self.view_is) (absent_at 0 opens n ss i h point.0 point.1 other)
