@@ -5,3 +5,4 @@ pub mod EachSession
 pub mod Loops
 pub mod Numbers
 pub mod Visits
+pub mod Idle

@@ -87,7 +87,7 @@ remembered_set low high (x ∷ ss) (suc i) s less h =
     on false = refl
 
 -- WHOSE NUMBER IT ISN'T
-above_absent : (low high n : ℕ) (ss : List Session) → n ≤ low → InOrder low ss high → Absent n ss
+pub above_absent : (low high n : ℕ) (ss : List Session) → n ≤ low → InOrder low ss high → Absent n ss
 above_absent low high n [] le h = tt
 above_absent low high n (s ∷ ss) le h = (λ e. omega (arith, e, h.0, le), above_absent s.number high n ss (omega (arith, h.0, le)) h.1.1)
 

@@ -7,6 +7,7 @@ ghost use Rattle.us_model.specs.Coordinators.{each_acts, each_session, is_over, 
 ghost use Rattle.us_coord.specs.Order.{StandsAt, Absent, Concerns};
 ghost use Rattle.us_coord.specs.Steps.{acts};
 
+use crate::marks::Marked;
 use crate::turn::{Turn, each, is_over, one};
 use crate::waits::put_waits_in;
 use std::alloc::Global;
@@ -27,17 +28,19 @@ pub struct Coordinator {
     seq: u64,
     opens: u64,
     sessions: Vec<Session>,
+    marked: Marked,
 }
 
 impl Model for Coordinator {
     ghost use Rattle.us_model.specs.State.{Coordinator};
     ghost use Rattle.us_coord.specs.Order.{InOrder};
+    ghost use Rattle.us_coord.specs.Marks.{AreIdle};
 
     ghost Value = { Coordinator };
 
     ghost view = { λ a. record { seq = a.seq; opens = a.opens; sessions = a.sessions.items } };
 
-    ghost invariant = { λ a. InOrder 0 a.sessions.items a.opens };
+    ghost invariant = { λ a. record { order : InOrder 0 a.sessions.items a.opens; idle : AreIdle a.marked a.sessions.items } };
 }
 
 impl Coordinator {
@@ -49,6 +52,7 @@ impl Coordinator {
             seq: 0,
             opens: 0,
             sessions: Vec::new(alloc),
+            marked: Marked::Nobody,
         }
     }
 
@@ -84,6 +88,7 @@ impl Coordinator {
         let mut sessions = mem::replace(&mut self.sessions, Vec::new(alloc));
         all(alloc, &mut context, &mut sessions, turn)?;
         self.sessions = sessions;
+        self.marked = Marked::All;
         self.seq = context.seq;
         Ok(context.out)
     }
@@ -125,6 +130,7 @@ impl Coordinator {
         let mut sessions = mem::replace(&mut self.sessions, Vec::new(alloc));
         one(alloc, &mut context, &mut sessions, place, turn)?;
         self.sessions = sessions;
+        self.marked = self.marked.marking(number);
         self.seq = context.seq;
         Ok(context.out)
     }
@@ -204,7 +210,28 @@ impl Coordinator {
         self.turn(alloc, view, &Turn::Prepared { one, tid }, out)
     }
 
-    /// Each session runs: its requests are performed, until one waits.
+    /// The sessions that are marked run, all others having nothing to do.
+    fn run_marked(
+        &mut self,
+        alloc: Global,
+        catalog: &Catalog,
+        view: &View,
+        out: Outputs,
+    ) -> Result<Outputs, Memory>
+        requires site { view.now.me.site < 10 }
+        requires shape { IsShape view.now.shape }
+        ensures coordinator { OnOk result (self.new ≡ (each_acts (run_session catalog.now) view.now self.old out).coordinator) }
+        ensures out { IfOk result (λ given. given ≡ (each_acts (run_session catalog.now) view.now self.old out).out) }
+    {
+        let turn = Turn::Run { catalog };
+        match self.marked {
+            Marked::One { number } => self.turn_of(alloc, view, number, &turn, out),
+            _ => self.turn(alloc, view, &turn, out),
+        }
+    }
+
+    /// Each session runs: its requests are performed, until one waits. Only sessions that an event concerned since the last run have
+    /// any to perform.
     pub fn run(
         &mut self,
         alloc: Global,
@@ -217,7 +244,12 @@ impl Coordinator {
         ensures coordinator { OnOk result (self.new ≡ (each_acts (run_session catalog.now) view.now self.old out).coordinator) }
         ensures out { IfOk result (λ given. given ≡ (each_acts (run_session catalog.now) view.now self.old out).out) }
     {
-        self.turn(alloc, view, &Turn::Run { catalog }, out)
+        if let Marked::Nobody = self.marked {
+            return Ok(out);
+        }
+        let out = self.run_marked(alloc, catalog, view, out)?;
+        self.marked = Marked::Nobody;
+        Ok(out)
     }
 
     /// How many of its sessions are open.

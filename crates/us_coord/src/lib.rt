@@ -2,6 +2,7 @@
 #![tactic(auto)]
 
 mod coordinator;
+mod marks;
 mod turn;
 mod waits;
 

@@ -18,7 +18,7 @@ returns-clause-absent c none =
     let i = c.partition_point-place.result in
     let same : ss ≡ c.self.inside.sessions.items = c.as_slice.ensures.value in
     let test = λ (s : Session). nat_lt s.number n in
-    let h : InOrder 0 ss opens = subst (λ xs. InOrder 0 xs opens) (sym same) c.self.invariant in
+    let h : InOrder 0 ss opens = subst (λ xs. InOrder 0 xs opens) (sym same) c.self.invariant.order in
     let point : IsPartitionPoint (λ s. test s ≡ true) (λ s. test s ≡ false) ss i =
     IsPartitionPoint-from_clause test ss i c.partition_point-place.ensures.partitioned (in_order_parted 0 opens n ss h) (λ a r q k. search rules) in
     let other : (d : Session) → i < length ss → (get_or ss i d).number ≡ n → ⊥ =

@@ -3,6 +3,7 @@ use Rattle.us_model.specs.Coordinators.{each_session, remembered}
 use Rattle.us_coord.specs.Order.{InOrder}
 use Rattle.us_coord.specs.Steps.{acts}
 use Rattle.us_coord.proofs.Acts.{acts-number}
+use Rattle.us_coord.proofs.Idle.{all_marked}
 use Rattle.us_coord.proofs.Visits.{in_order_each}
 use Rattle.us_coord.proofs.coordinator.Coordinator.turn.Goals as goal
 
@@ -13,4 +14,9 @@ invariant_of-self-2 c =
     let d = c.context_of-context.result in
     let left : c.all.new.sessions.items ≡ remembered (each_session f d ss).sessions =
     c.in_ok-all.ensures.sessions ∙ ap (λ v. remembered (each_session f d v.items).sessions) c.replace-sessions.ensures.value in
-    subst (λ xs. InOrder 0 xs c.self.inside.opens) (sym left) (in_order_each f (acts-number c.args.turn.now) 0 c.self.inside.opens d ss c.self.invariant)
+    record {
+      order =
+          subst (λ xs. InOrder 0 xs c.self.inside.opens) (sym left)
+          (in_order_each f (acts-number c.args.turn.now) 0 c.self.inside.opens d ss c.self.invariant.order);
+      idle = all_marked c.all.new.sessions.items;
+    }

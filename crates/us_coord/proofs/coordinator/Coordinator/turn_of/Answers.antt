@@ -3,7 +3,9 @@ use Rattle.us_model.specs.State.{Coordinator}
 use Rattle.us_model.specs.Coordinators.{Coordinated}
 use Rattle.us_coord.specs.Order.{InOrder, StandsAt}
 use Rattle.us_coord.specs.Steps.{acts}
+use Rattle.us_coord.specs.Marks.{AreIdle}
 use Rattle.us_coord.proofs.Acts.{acts-number}
+use Rattle.us_coord.proofs.Idle.{turn_idle}
 use Rattle.us_coord.proofs.Visits.{TurnAt, absent_acts, given_acts, turn_in_order}
 use Rattle.us_coord.proofs.coordinator.Coordinator.turn_of.Goals as goal
 
@@ -36,7 +38,12 @@ invariant_of-self-2 c =
     let here : TurnAt f d c.replace-sessions.result.items i d' ss' =
     record { context = c.in_ok-one.ensures.context; sessions = c.in_ok-one.ensures.sessions } in
     let there = subst (λ xs. TurnAt f d xs i d' ss') (ap (λ v. v.items) c.replace-sessions.ensures.value) here in
-    turn_in_order f (acts-number c.args.turn.now) c.self.inside.opens n i d d' ss ss' c.self.invariant at there
+    record {
+      order = turn_in_order f (acts-number c.args.turn.now) c.self.inside.opens n i d d' ss ss' c.self.invariant.order at there;
+      idle =
+          subst (λ m. AreIdle m ss') (sym c.marking-self-inside.ensures)
+          (turn_idle f (acts-number c.args.turn.now) c.self.inside.marked n i d d' ss ss' at there c.self.invariant.idle);
+    }
 
 pub returns-clause-coordinator : goal.returns-clause-coordinator
 returns-clause-coordinator c =
@@ -45,7 +52,7 @@ returns-clause-coordinator c =
     c.one.new.sessions.items = record { context = c.in_ok-one.ensures.context; sessions = c.in_ok-one.ensures.sessions } in
     ap (λ (a : Coordinated). a.coordinator)
     (given_acts (acts c.args.turn.now) c.args.view.now k c.args.self.now c.args.out c.args.number c.in-Some.place c.context_of-context.result
-    c.one.new.context c.replace-sessions.result.items c.one.new.sessions.items c.self.view_is c.self.invariant c.in-Some.ensures.found
+    c.one.new.context c.replace-sessions.result.items c.one.new.sessions.items c.self.view_is c.self.invariant.order c.in-Some.ensures.found
     c.requires.concerns c.context_of-context.ensures (ap (λ v. v.items) c.replace-sessions.ensures.value) turn)
 
 pub returns-clause-out : goal.returns-clause-out
@@ -55,5 +62,5 @@ returns-clause-out c =
     c.one.new.sessions.items = record { context = c.in_ok-one.ensures.context; sessions = c.in_ok-one.ensures.sessions } in
     ap (λ (a : Coordinated). a.out)
     (given_acts (acts c.args.turn.now) c.args.view.now k c.args.self.now c.args.out c.args.number c.in-Some.place c.context_of-context.result
-    c.one.new.context c.replace-sessions.result.items c.one.new.sessions.items c.self.view_is c.self.invariant c.in-Some.ensures.found
+    c.one.new.context c.replace-sessions.result.items c.one.new.sessions.items c.self.view_is c.self.invariant.order c.in-Some.ensures.found
     c.requires.concerns c.context_of-context.ensures (ap (λ v. v.items) c.replace-sessions.ensures.value) turn)
