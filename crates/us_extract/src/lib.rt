@@ -14,3 +14,6 @@ pub use beginnings::Beginning;
 pub use commits::Commit;
 pub use history::History;
 pub use performances::Performance;
+
+#[cfg(test)]
+mod tests;
