@@ -1,5 +1,5 @@
 -- A session that has nothing to do stays as it is when it runs, and after a run no session has anything to do.
-use Rattle.std.proofs.Common.{◌≡◌, ℕ, zero, suc, ◌≤◌, List, [], ◌∷◌, ◌++◌, length, get_or, Bool, true, false, true≢false, refl, sym, ap, ◌∙◌, subst, cond, arith}
+use Rattle.std.proofs.Common.{◌≡◌, ℕ, zero, suc, List, [], ◌∷◌, ◌++◌, get_or, Bool, true, false, true≢false, refl, sym, ap, ◌∙◌, subst, cond, arith}
 use Rattle.std.specs.Prelude.{◌==◌, not, slice_set, remove}
 use Rattle.std.proofs.lemmas.Bool.{ne_eqb, eq-eqb}
 use Rattle.std.proofs.lemmas.List.{get_or_default}
@@ -63,7 +63,7 @@ all_set P [] i s p h = tt
 all_set P (x ∷ ss) zero s p h = (p, h.1)
 all_set P (x ∷ ss) (suc i) s p h = (h.0, all_set P ss i s p h.1)
 
-all_remove : (P : Session → Type 0) (ss : List Session) (i : ℕ) → All P ss → All P (remove ss i)
+pub all_remove : (P : Session → Type 0) (ss : List Session) (i : ℕ) → All P ss → All P (remove ss i)
 all_remove P [] zero h = tt
 all_remove P [] (suc i) h = tt
 all_remove P (x ∷ ss) zero h = h.1

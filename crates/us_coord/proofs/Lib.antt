@@ -3,6 +3,8 @@ pub mod Concerned
 pub mod Counts
 pub mod EachSession
 pub mod Loops
+pub mod Moves
+pub mod Found
 pub mod Numbers
 pub mod Visits
 pub mod Idle

@@ -6,11 +6,14 @@ ghost use Rattle.us_model.specs.Coordinators.{new_coordinator, new_session, open
 ghost use Rattle.us_model.specs.Coordinators.{each_acts, each_session, is_over, remembered};
 ghost use Rattle.us_coord.specs.Order.{StandsAt, Absent, Concerns};
 ghost use Rattle.us_coord.specs.Steps.{acts};
+ghost use Rattle.us_coord.specs.Table.{AreFound, Ascends, found_in};
 
 use crate::marks::Marked;
+use crate::table::session_of;
 use crate::turn::{Turn, each, is_over, one};
 use crate::waits::put_waits_in;
 use std::alloc::Global;
+use std::collections::HashMap;
 use std::marker::Model;
 use std::mem;
 use us_base::{Shape, Vector};
@@ -28,6 +31,8 @@ pub struct Coordinator {
     seq: u64,
     opens: u64,
     sessions: Vec<Session>,
+    /// The number of each running transaction, with the number of its session.
+    table: HashMap<u64, u64>,
     marked: Marked,
 }
 
@@ -35,12 +40,17 @@ impl Model for Coordinator {
     ghost use Rattle.us_model.specs.State.{Coordinator};
     ghost use Rattle.us_coord.specs.Order.{InOrder};
     ghost use Rattle.us_coord.specs.Marks.{AreIdle};
+    ghost use Rattle.us_coord.specs.Table.{AreFound, found_in};
 
     ghost Value = { Coordinator };
 
     ghost view = { λ a. record { seq = a.seq; opens = a.opens; sessions = a.sessions.items } };
 
-    ghost invariant = { λ a. record { order : InOrder 0 a.sessions.items a.opens; idle : AreIdle a.marked a.sessions.items } };
+    ghost invariant = { λ a. record {
+      order : InOrder 0 a.sessions.items a.opens;
+      idle : AreIdle a.marked a.sessions.items;
+      found : AreFound (found_in a.table) a.seq a.sessions.items;
+    } };
 }
 
 impl Coordinator {
@@ -52,6 +62,7 @@ impl Coordinator {
             seq: 0,
             opens: 0,
             sessions: Vec::new(alloc),
+            table: HashMap::new(alloc),
             marked: Marked::Nobody,
         }
     }
@@ -66,7 +77,7 @@ impl Coordinator {
             coord,
             session: number,
         })?;
-        self.sessions.push(session_of(alloc, number))?;
+        self.sessions.push(new_session(alloc, number))?;
         self.opens = number;
         Ok(out)
     }
@@ -86,7 +97,7 @@ impl Coordinator {
     {
         let mut context = context_of(view, self.seq, out);
         let mut sessions = mem::replace(&mut self.sessions, Vec::new(alloc));
-        all(alloc, &mut context, &mut sessions, turn)?;
+        all(alloc, &mut context, &mut sessions, &mut self.table, turn)?;
         self.sessions = sessions;
         self.marked = Marked::All;
         self.seq = context.seq;
@@ -128,7 +139,14 @@ impl Coordinator {
         };
         let mut context = context_of(view, self.seq, out);
         let mut sessions = mem::replace(&mut self.sessions, Vec::new(alloc));
-        one(alloc, &mut context, &mut sessions, place, turn)?;
+        one(
+            alloc,
+            &mut context,
+            &mut sessions,
+            &mut self.table,
+            place,
+            turn,
+        )?;
         self.sessions = sessions;
         self.marked = self.marked.marking(number);
         self.seq = context.seq;
@@ -190,7 +208,9 @@ impl Coordinator {
         ensures coordinator { OnOk result (self.new ≡ (each_acts (version received.now) view.now self.old out).coordinator) }
         ensures out { IfOk result (λ given. given ≡ (each_acts (version received.now) view.now self.old out).out) }
     {
-        self.turn(alloc, view, &Turn::Version { version: received }, out)
+        let session = session_of(&self.table, received.tid.seq);
+        let turn = Turn::Version { version: received };
+        self.turn_of(alloc, view, session, &turn, out)
     }
 
     /// A partition tells under which timestamp it has prepared a transaction. What nobody awaits changes nothing.
@@ -207,7 +227,8 @@ impl Coordinator {
         ensures coordinator { OnOk result (self.new ≡ (each_acts (prepared one.part tid one.ts) view.now self.old out).coordinator) }
         ensures out { IfOk result (λ given. given ≡ (each_acts (prepared one.part tid one.ts) view.now self.old out).out) }
     {
-        self.turn(alloc, view, &Turn::Prepared { one, tid }, out)
+        let session = session_of(&self.table, tid.seq);
+        self.turn_of(alloc, view, session, &Turn::Prepared { one, tid }, out)
     }
 
     /// The sessions that are marked run, all others having nothing to do.
@@ -299,14 +320,18 @@ fn all(
     alloc: Global,
     context: &mut Context,
     sessions: &mut Vec<Session>,
+    table: &mut HashMap<u64, u64>,
     turn: &Turn<'_>,
 ) -> Result<(), Memory>
     requires site { context.old.me.site < 10 }
     requires shape { IsShape context.old.shape }
+    requires ascend { Ascends 0 sessions.old.items }
+    requires found { AreFound (found_in table.old) context.old.seq sessions.old.items }
     ensures context { OnOk result (context.new ≡ (each_session (acts turn.now) context.old sessions.old.items).context) }
     ensures sessions { OnOk result (sessions.new.items ≡ remembered (each_session (acts turn.now) context.old sessions.old.items).sessions) }
+    ensures found { OnOk result (AreFound (found_in table.new) context.new.seq sessions.new.items) }
 {
-    each(alloc, context, sessions.as_mut_slice(), turn)?;
+    each(alloc, context, sessions.as_mut_slice(), table, turn)?;
     forget(sessions);
     Ok(())
 }
@@ -366,7 +391,7 @@ pub fn refuse_open(
 }
 
 /// A session of which nothing has come.
-fn session_of(alloc: Global, number: u64) -> Session
+fn new_session(alloc: Global, number: u64) -> Session
     ensures { result ≡ new_session number }
 {
     Session {

@@ -3,6 +3,7 @@
 
 mod coordinator;
 mod marks;
+mod table;
 mod turn;
 mod waits;
 

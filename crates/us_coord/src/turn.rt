@@ -1,13 +1,16 @@
 //! The sessions of a coordinator take an event in turn.
-ghost use Rattle.std.specs.Prelude.{◌≡◌, ◌<◌, OnOk, length, slice_index_or};
+ghost use Rattle.std.specs.Prelude.{◌≡◌, ℕ, ◌<◌, OnOk, length, slice_index_or};
 ghost use Rattle.us_base.specs.Shape.{IsShape};
 ghost use Rattle.us_model.specs.Sessions.{stays};
 ghost use Rattle.us_model.specs.declared.coordinator.Session.{Session};
 ghost use Rattle.us_model.specs.Coordinators.{each_session, is_over};
 ghost use Rattle.us_coord.specs.Order.{put_back};
 ghost use Rattle.us_coord.specs.Steps.{acts};
+ghost use Rattle.us_coord.specs.Table.{AreFound, Ascends, found_in, moved_on, runs};
 
+use crate::table::{move_on, runs};
 use std::alloc::Global;
+use std::collections::HashMap;
 use us_kind::{Memory, Tid};
 use us_model::{Context, Session, Vote};
 use us_peer_wire::Version;
@@ -61,20 +64,43 @@ fn act(
     }
 }
 
+/// One session's turn. The table then has the transaction that it runs.
+fn take_turn(
+    alloc: Global,
+    context: &mut Context,
+    session: &mut Session,
+    table: &mut HashMap<u64, u64>,
+    turn: &Turn<'_>,
+) -> Result<(), Memory>
+    requires site { context.old.me.site < 10 }
+    requires shape { IsShape context.old.shape }
+    ensures step { OnOk result (stays context.new session.new ≡ acts turn.now context.old session.old) }
+    ensures table { OnOk result ((q : ℕ) → found_in table.new q ≡ moved_on session.old.number (runs session.old) (runs session.new) (found_in table.old) q) }
+{
+    let number = session.number;
+    let was = runs(session);
+    act(alloc, context, session, turn)?;
+    move_on(table, number, was, runs(session))
+}
+
 /// Each session's turn, by number.
 pub fn each(
     alloc: Global,
     context: &mut Context,
     sessions: &mut [Session],
+    table: &mut HashMap<u64, u64>,
     turn: &Turn<'_>,
 ) -> Result<(), Memory>
     requires site { context.old.me.site < 10 }
     requires shape { IsShape context.old.shape }
+    requires ascend { Ascends 0 sessions.old }
+    requires found { AreFound (found_in table.old) context.old.seq sessions.old }
     ensures context { OnOk result (context.new ≡ (each_session (acts turn.now) context.old sessions.old).context) }
     ensures sessions { OnOk result (sessions.new ≡ (each_session (acts turn.now) context.old sessions.old).sessions) }
+    ensures found { OnOk result (AreFound (found_in table.new) context.new.seq sessions.new) }
 {
     for i in 0..sessions.len() {
-        act(alloc, context, &mut sessions[i], turn)?;
+        take_turn(alloc, context, &mut sessions[i], table, turn)?;
     }
     Ok(())
 }
@@ -91,17 +117,21 @@ pub fn one(
     alloc: Global,
     context: &mut Context,
     sessions: &mut Vec<Session>,
+    table: &mut HashMap<u64, u64>,
     place: usize,
     turn: &Turn<'_>,
 ) -> Result<(), Memory>
     requires site { context.old.me.site < 10 }
     requires shape { IsShape context.old.shape }
     requires place { place < length sessions.old.items }
+    requires ascend { Ascends 0 sessions.old.items }
+    requires found { AreFound (found_in table.old) context.old.seq sessions.old.items }
     ensures context { OnOk result ((s : Session) → s ≡ slice_index_or sessions.old.items place s → context.new ≡ (acts turn.now context.old s).context) }
     ensures sessions { OnOk result ((s : Session) → s ≡ slice_index_or sessions.old.items place s
         → sessions.new.items ≡ put_back sessions.old.items place (acts turn.now context.old s).session) }
+    ensures found { OnOk result (AreFound (found_in table.new) context.new.seq sessions.new.items) }
 {
-    act(alloc, context, &mut sessions[place], turn)?;
+    take_turn(alloc, context, &mut sessions[place], table, turn)?;
     if is_over(&sessions[place]) {
         sessions.remove(place);
     }

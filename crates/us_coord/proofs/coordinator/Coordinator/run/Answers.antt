@@ -35,5 +35,6 @@ invariant_of-self c =
     let after = ap (λ (k : Coordinator). k.sessions) (c.self-2.view_is ∙ c.in_ok-out.ensures.coordinator) in
     record {
       order = c.self-2.invariant.order;
+      found = c.self-2.invariant.found;
       idle = subst (AreIdle marked.Nobody) (sym after) (idle_each c.args.catalog.now d c.args.self.now.sessions);
     }

@@ -3,6 +3,8 @@ use Rattle.us_model.specs.Coordinators.{each_session, remembered}
 use Rattle.us_coord.specs.Order.{InOrder}
 use Rattle.us_coord.specs.Steps.{acts}
 use Rattle.us_coord.proofs.Acts.{acts-number}
+use Rattle.us_coord.specs.Table.{Ascends}
+use Rattle.us_coord.proofs.Found.{in_order_ascends}
 use Rattle.us_coord.proofs.Idle.{all_marked}
 use Rattle.us_coord.proofs.Visits.{in_order_each}
 use Rattle.us_coord.proofs.coordinator.Coordinator.turn.Goals as goal
@@ -19,4 +21,10 @@ invariant_of-self-2 c =
           subst (λ xs. InOrder 0 xs c.self.inside.opens) (sym left)
           (in_order_each f (acts-number c.args.turn.now) 0 c.self.inside.opens d ss c.self.invariant.order);
       idle = all_marked c.all.new.sessions.items;
+      found = c.in_ok-all.ensures.found;
     }
+
+pub all-requires-clause-ascend : goal.all-requires-clause-ascend
+all-requires-clause-ascend c =
+    subst (Ascends 0) (sym (ap (λ v. v.items) c.replace-sessions.ensures.value))
+    (in_order_ascends 0 c.self.inside.opens c.self.inside.sessions.items c.self.invariant.order)

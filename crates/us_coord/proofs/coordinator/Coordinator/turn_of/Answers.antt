@@ -1,10 +1,12 @@
-use Rattle.std.proofs.Common.{◌≡◌, refl, ap, sym, subst, ◌∙◌, rules}
+use Rattle.std.proofs.Common.{refl, ap, sym, subst, rules}
 use Rattle.us_model.specs.State.{Coordinator}
 use Rattle.us_model.specs.Coordinators.{Coordinated}
 use Rattle.us_coord.specs.Order.{InOrder, StandsAt}
 use Rattle.us_coord.specs.Steps.{acts}
 use Rattle.us_coord.specs.Marks.{AreIdle}
 use Rattle.us_coord.proofs.Acts.{acts-number}
+use Rattle.us_coord.specs.Table.{Ascends}
+use Rattle.us_coord.proofs.Found.{in_order_ascends}
 use Rattle.us_coord.proofs.Idle.{turn_idle}
 use Rattle.us_coord.proofs.Visits.{TurnAt, absent_acts, given_acts, turn_in_order}
 use Rattle.us_coord.proofs.coordinator.Coordinator.turn_of.Goals as goal
@@ -43,6 +45,7 @@ invariant_of-self-2 c =
       idle =
           subst (λ m. AreIdle m ss') (sym c.marking-self-inside.ensures)
           (turn_idle f (acts-number c.args.turn.now) c.self.inside.marked n i d d' ss ss' at there c.self.invariant.idle);
+      found = c.in_ok-one.ensures.found;
     }
 
 pub returns-clause-coordinator : goal.returns-clause-coordinator
@@ -64,3 +67,8 @@ returns-clause-out c =
     (given_acts (acts c.args.turn.now) c.args.view.now k c.args.self.now c.args.out c.args.number c.in-Some.place c.context_of-context.result
     c.one.new.context c.replace-sessions.result.items c.one.new.sessions.items c.self.view_is c.self.invariant.order c.in-Some.ensures.found
     c.requires.concerns c.context_of-context.ensures (ap (λ v. v.items) c.replace-sessions.ensures.value) turn)
+
+pub one-requires-clause-ascend : goal.one-requires-clause-ascend
+one-requires-clause-ascend c =
+    subst (Ascends 0) (sym (ap (λ v. v.items) c.replace-sessions.ensures.value))
+    (in_order_ascends 0 c.self.inside.opens c.self.inside.sessions.items c.self.invariant.order)
