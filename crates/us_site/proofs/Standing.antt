@@ -1,15 +1,17 @@
 -- The actors of a site stand in order.
 use Rattle.std.proofs.Common.{◌≡◌, ◌∙◌, ℕ, zero, suc, ◌<◌, ◌+◌, ◌-◌, List, [], ◌∷◌, ◌++◌, length, map, get_or, refl, ap, sym, subst, arith}
-use Rattle.std.specs.Prelude.{Bool, Some, slice_get, slice_set, Result, Ok, Err, OnOk, IfOk}
+use Rattle.std.specs.Prelude.{Bool, ◌&&◌, Some, slice_get, slice_set, Result, Ok, Err, OnOk, IfOk}
 use Rattle.std.proofs.lemmas.Bool.{cond-true, lt-ltb}
 use Rattle.us_base.specs.declared.shape.Shape.{Shape}
 use Rattle.us_peer_wire.specs.declared.message.Actor.{Actor}
 use Rattle.us_model.specs.declared.event.Event.{Event}
+use Rattle.us_model.specs.declared.event.Event.TheVariants as event
 use Rattle.us_model.specs.declared.event.Outputs.{Outputs}
 use Rattle.us_model.specs.declared.settings.Settings.{Settings}
 use Rattle.us_model.specs.State.{Site}
 use Rattle.us_model.specs.Sites.{ActorStep, actor_of, shard_at, step_of, site_step, take_event, wake, is_full, no_outputs}
 use Rattle.us_model.specs.Sites.{with_shard as site_with, Stepped}
+use Rattle.us_site.specs.Events.{is_open}
 use Rattle.us_site.specs.Shards.{Kept, shard_of, with_shard, IsAt, AreAt}
 
 abbrev at_actor : Shape → ℕ → Kept → ℕ → Type 0
@@ -59,8 +61,17 @@ woken number settings full a k e =
     let me : Actor = record { site = number; actor = a } in
     wake me settings (take_event me settings full (record { shard = shard_of k; out = no_outputs }) e)
 
+-- how many sessions are open makes a difference only where one is opened
+only_opens : (me : Actor) (settings : Settings) (full : Bool) (w : ActorStep) (e : Event)
+    → take_event me settings (is_open e && full) w e ≡ take_event me settings full w e
+unfolding take_event
+only_opens me settings full w (event.Open coord) = refl
+only_opens me settings full w (event.Bytes coord session piece) = refl
+only_opens me settings full w (event.Close coord session) = refl
+only_opens me settings full w (event.Take packet) = refl
+
 came : (number : ℕ) (settings : Settings) (ks : List Kept) (e : Event) (a i : ℕ) (full : Bool) (d : Kept) → a ≡ actor_of e → 0 < a → i ≡ a - 1
-    → i < length ks → full ≡ is_full (site_of number settings ks)
+    → i < length ks → full ≡ (is_open e && is_full (site_of number settings ks))
     → site_step (site_of number settings ks) e ≡ site_with (site_of number settings ks) a (woken number settings full a (get_or ks i d) e)
 came number settings ks e a i full d at some place less same =
     let s : Site = site_of number settings ks in
@@ -68,11 +79,13 @@ came number settings ks e a i full d at some place less same =
     cond-true _ _ _ (lt-ltb 0 a some) ∙ ap (slice_get (map shard_of ks)) (sym place) ∙ map-get shard_of ks i d less in
     sym (ap (λ n. step_of s e (record { site = number; actor = n }) (shard_at (map shard_of ks) n)) at)
     ∙ ap (step_of s e (record { site = number; actor = a })) found
-    ∙ sym (ap (λ b. site_with s a (woken number settings b a (get_or ks i d) e)) same)
+    ∙ sym (ap (λ b. site_with s a (woken number settings b a (get_or ks i d) e)) same
+    ∙ ap (λ w. site_with s a (wake (record { site = number; actor = a }) settings w))
+    (only_opens (record { site = number; actor = a }) settings (is_full s) (record { shard = shard_of (get_or ks i d); out = no_outputs }) e))
 
 -- the site after it
 pub stepped_site : {E : Type 0} (r : Result Outputs E) (number : ℕ) (settings : Settings) (ks : List Kept) (e : Event) (a i : ℕ) (full : Bool) (d new : Kept)
-    → a ≡ actor_of e → 0 < a → i ≡ a - 1 → i < length ks → full ≡ is_full (site_of number settings ks)
+    → a ≡ actor_of e → 0 < a → i ≡ a - 1 → i < length ks → full ≡ (is_open e && is_full (site_of number settings ks))
     → OnOk r (new ≡ with_shard (get_or ks i d) (woken number settings full a (get_or ks i d) e).shard)
     → OnOk r ((site_step (site_of number settings ks) e).site ≡ site_of number settings (slice_set ks i new))
 stepped_site (Ok x) number settings ks e a i full d new at some place less same h =
@@ -86,7 +99,7 @@ stepped_site (Err x) number settings ks e a i full d new at some place less same
 
 -- what it gives out
 pub stepped_out : {E : Type 0} (r : Result Outputs E) (number : ℕ) (settings : Settings) (ks : List Kept) (e : Event) (a i : ℕ) (full : Bool) (d : Kept)
-    → a ≡ actor_of e → 0 < a → i ≡ a - 1 → i < length ks → full ≡ is_full (site_of number settings ks)
+    → a ≡ actor_of e → 0 < a → i ≡ a - 1 → i < length ks → full ≡ (is_open e && is_full (site_of number settings ks))
     → IfOk r (λ out. out ≡ (woken number settings full a (get_or ks i d) e).out)
     → IfOk r (λ out. out ≡ (site_step (site_of number settings ks) e).out)
 stepped_out (Ok x) number settings ks e a i full d at some place less same h =

@@ -1,8 +1,9 @@
 //! One site.
-ghost use Rattle.std.specs.Prelude.{◌≡◌, ◌<◌, ◌≤◌, ◌+◌, ◌++◌, false, is_err, length, map, nat_le, IfOk, OnOk};
+ghost use Rattle.std.specs.Prelude.{◌≡◌, ◌<◌, ◌≤◌, ◌+◌, ◌++◌, ◌&&◌, false, is_err, length, map, nat_le, IfOk, OnOk};
 ghost use Rattle.us_base.specs.Shape.{IsShape};
 ghost use Rattle.us_model.specs.Sites.{actor_of, new_shards, no_outputs, open_at, site_step};
 ghost use Rattle.us_model.specs.Worlds.{waits_at};
+ghost use Rattle.us_site.specs.Events.{is_open};
 ghost use Rattle.us_site.specs.Shards.{shard_of, AreAt};
 
 use crate::shard::Shard;
@@ -164,6 +165,23 @@ fn is_full(shards: &[Shard]) -> bool
     false
 }
 
+/// Whether a client opens a session by the event.
+fn is_open(event: &Event) -> bool
+    ensures { result ≡ is_open event.now }
+{
+    match event {
+        Event::Open { .. } => true,
+        _ => false,
+    }
+}
+
+/// Whether a client opens a session by the event at actors that have as many open ones as a site may have.
+fn is_one_too_many(shards: &[Shard], event: &Event) -> bool
+    ensures { result ≡ (is_open event.now && nat_le 4096 (open_at (map shard_of shards.now))) }
+{
+    is_open(event) && is_full(shards)
+}
+
 /// What a step gives out that changes nothing.
 fn nothing(alloc: Global) -> Outputs
     ensures { result ≡ no_outputs }
@@ -199,6 +217,6 @@ fn step_shards(
         site: number,
         actor,
     };
-    let full = is_full(shards);
+    let full = is_one_too_many(shards, &event);
     shards[usize::from(actor) - 1].step(alloc, &me, settings, full, event)
 }
