@@ -29,7 +29,8 @@ loop-i-preserved c =
     ∙ ap (λ (x : Session). moved_on x.number (runs x) (runs c.take_turn.new.session) (found_in c.loop-i.table) q) (sym is) in
     record {
       post = ap post context ∙ acts-post c.args.turn.now d s ∙ c.loop-i.invariant.post;
-      context = each-context f d c.take_turn.new.context s c.take_turn.new.session c.loop-i.sessions c.loop-i.i (omega arith) is context ∙ c.loop-i.invariant.context;
+      context = each-context f d c.take_turn.new.context s c.take_turn.new.session c.loop-i.sessions c.loop-i.i (omega arith) is context
+          ∙ c.loop-i.invariant.context;
       sessions = each-sessions f d c.take_turn.new.context s c.take_turn.new.session c.loop-i.sessions c.loop-i.i (omega arith) is context session
           ∙ c.loop-i.invariant.sessions;
       ascend = ascends_set 0 c.loop-i.sessions c.loop-i.i s c.take_turn.new.session (omega arith) is same c.loop-i.invariant.ascend;
