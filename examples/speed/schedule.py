@@ -6,7 +6,8 @@
 
 Each transaction adds to a counter, adds to a set, writes a register and reads a register, is committed causally, and is
 followed by a flush: 12 events, of which 11 are deliveries of packets. With --repeats K come then K of the packets that came so
-far once more. A run takes at most 20,000 transactions, 512 sessions and 1,000,000 events.
+far once more. With --open K the transactions are done in turn in K sessions that stay open. A run takes at most 20,000
+transactions, 512 sessions and 1,000,000 events.
 """
 
 import argparse
@@ -51,12 +52,13 @@ PACKETS = 11
 STRIDE = 7919
 
 
-def lines(count: int, sessions: bool, repeats: int) -> Iterator[str]:
+def lines(count: int, sessions: bool, stay: int, repeats: int) -> Iterator[str]:
     """The schedule's lines behind the configuration."""
     if not sessions:
-        yield "open 1 1"
+        for _ in range(stay):
+            yield "open 1 1"
     for number in range(count):
-        session = number + 1 if sessions else 1
+        session = number + 1 if sessions else 1 + number % stay
         if sessions:
             yield "open 1 1"
         yield f"bytes 1 1 {session} {transaction(number)}"
@@ -71,14 +73,15 @@ def main() -> None:
     parser = argparse.ArgumentParser(description=__doc__, formatter_class=argparse.RawDescriptionHelpFormatter)
     parser.add_argument("count", metavar="N", type=int, help="how many transactions there are, at least 1")
     parser.add_argument("--sessions", action="store_true", help="each transaction in a session of its own, closed after it")
+    parser.add_argument("--open", metavar="K", type=int, default=1, help="how many sessions stay open and take the transactions in turn")
     parser.add_argument("--repeats", metavar="K", type=int, default=0, help="how many earlier packets come again after each transaction")
     options = parser.parse_args()
-    if options.count < 1 or options.repeats < 0:
-        parser.error("N is at least 1, K at least 0")
+    if options.count < 1 or options.open < 1 or options.repeats < 0:
+        parser.error("N and the sessions that stay open are at least 1, the repeats at least 0")
     for kind, number, _ in SPACES:
         print(f'[[space]]\nnumber = {number}\nkind = "{kind}"')
     print("---")
-    for line in lines(options.count, options.sessions, options.repeats):
+    for line in lines(options.count, options.sessions, options.open, options.repeats):
         print(line)
 
 
