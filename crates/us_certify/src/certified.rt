@@ -18,7 +18,6 @@ use us_peer_wire::{LogEntry, Page, Verdict};
 /// The decided entries of the ballot log, each with its verdict. Slots count from 1.
 #[derive(Drop)]
 pub struct Certified {
-    alloc: Global,
     shape: Shape,
     decisions: Vec<Decision>,
 }
@@ -41,7 +40,6 @@ impl Certified {
         ensures { result ≡ record { shape = shape; decisions = [] } }
     {
         Certified {
-            alloc,
             shape,
             decisions: Vec::new(alloc),
         }
@@ -84,7 +82,7 @@ impl Certified {
         ensures { IfOk result (λ pages. pages.items ≡ pages_from self.now part first) }
     {
         pages_from(
-            self.alloc,
+            *self.decisions.allocator(),
             self.shape,
             part,
             first,

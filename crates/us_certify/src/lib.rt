@@ -3,9 +3,17 @@
 
 mod certified;
 mod decision;
+mod example;
+mod laws;
 mod pages;
+#[cfg(test)]
+mod tests;
 mod verdict;
 
 pub use certified::Certified;
 pub use decision::Decision;
+pub use example::{worked_pages, worked_verdicts};
+pub use laws::{
+    conflicts_are_seen, decisions_stay, transactions_are_decided_once, verdicts_say_why,
+};
 pub use us_peer_wire::{LogEntry, Page, Verdict};
