@@ -1,5 +1,6 @@
 -- A log's decisions go on from those of its front.
-use Rattle.std.proofs.Common.{◌≡◌, ◌↔◌, ℕ, zero, suc, ◌+◌, ◌-◌, ◌<◌, List, [], ◌∷◌, ◌++◌, length, get_or, take, drop, drop-cons, slice_get, Option, Some, None, refl, sym, ap, ◌∙◌, subst, arith, append_assoc}
+use Rattle.std.proofs.Common.{◌≡◌, ◌↔◌, ℕ, zero, suc, ◌+◌, ◌-◌, ◌<◌, List, [], ◌∷◌, ◌++◌, length, get_or, take, drop, slice_get}
+use Rattle.std.proofs.Common.{Option, Some, None, refl, sym, ap, ◌∙◌, subst, arith, append_assoc, drop-cons}
 use Rattle.std.proofs.lemmas.List.{append-nil, length-append, length-take-le, map-append, take-append-drop}
 use Rattle.std.proofs.lemmas.Option.{slice_get_within}
 use Rattle.std.proofs.Math.Seq.{take-append_seam}
@@ -22,7 +23,8 @@ get-seam (x ∷ xs) y ys (suc k) at = get-seam xs y ys k (omega (arith, at))
 -- DECISIONS
 module _ (pairs : List (ℕ × Class × Class)) where
   -- entries in two parts
-  pub certified-append : (ds : List Decision) (es more : List LogEntry) → certified_after pairs ds (es ++ more) ≡ certified_after pairs (certified_after pairs ds es) more
+  pub certified-append : (ds : List Decision) (es more : List LogEntry)
+      → certified_after pairs ds (es ++ more) ≡ certified_after pairs (certified_after pairs ds es) more
   certified-append ds [] more = refl
   certified-append ds (e ∷ es) more = certified-append (ds ++ decision_after pairs ds e ∷ []) es more
 
@@ -83,7 +85,8 @@ module _ (pairs : List (ℕ × Class × Class)) where
       let within : k < length es = let w = slice_get_within (certified pairs es) k d at in let l = length-whole es in omega (arith, w, l) in
       let long : length front ≡ k = length-whole (take k es) ∙ length-take-le k es (omega (arith, within)) in
       let e = get_or es k d.entry in
-      let parts : es ≡ take k es ++ e ∷ drop (suc k) es = sym (take-append-drop k es) ∙ ap (λ (rest : List LogEntry). take k es ++ rest) (drop-cons es k d.entry within) in
+      let parts : es ≡ take k es ++ e ∷ drop (suc k) es =
+      sym (take-append-drop k es) ∙ ap (λ (rest : List LogEntry). take k es ++ rest) (drop-cons es k d.entry within) in
       let own = decision_after pairs front e in
       let h = grown (front ++ own ∷ []) (drop (suc k) es) in
       let whole : certified pairs es ≡ front ++ own ∷ h.rest =

@@ -1,5 +1,6 @@
 -- Why a verdict is given.
-use Rattle.std.proofs.Common.{◌≡◌, ◌⊎◌, inl, inr, ℕ, zero, suc, ◌+◌, ◌<◌, List, [], ◌∷◌, length, get_or, slice_get, Bool, true, false, not, ◌&&◌, ◌||◌, Option, Some, None, refl, sym, ap, ◌∙◌, subst, arith, true≢false}
+use Rattle.std.proofs.Common.{◌≡◌, ◌⊎◌, inl, inr, ℕ, zero, suc, ◌+◌, ◌<◌, List, [], ◌∷◌, length, get_or, slice_get, Option, Some, None}
+use Rattle.std.proofs.Common.{Bool, true, false, not, ◌&&◌, ◌||◌, refl, sym, ap, ◌∙◌, subst, arith, true≢false}
 use Rattle.std.proofs.lemmas.Bool.{and_parts, cond-true, cond-false}
 use Rattle.std.proofs.lemmas.List.Quantifiers.{position-Some}
 use Rattle.std.proofs.lemmas.Option.{slice_get-get_or}
@@ -15,7 +16,8 @@ use Rattle.us_peer_wire.specs.declared.message.LogEntry.{LogEntry}
 use Rattle.us_peer_wire.specs.declared.message.Verdict.{Verdict}
 use Rattle.us_peer_wire.specs.declared.message.Verdict.TheVariants.{Commit, Abort, Repeat}
 use Rattle.us_certify.specs.declared.decision.Decision.{Decision}
-use Rattle.us_certify.specs.Certification.{abort_by, abort_on, certified_by, conflict_item, decision_in, holds, is_commit, is_unseen, item_at, item_of, verdict_after, verdict_or}
+use Rattle.us_certify.specs.Certification.{abort_by, abort_on, certified_by, verdict_after, verdict_or}
+use Rattle.us_certify.specs.Certification.{conflict_item, decision_in, holds, is_commit, is_unseen, item_at, item_of}
 use Rattle.us_certify.specs.Laws.{IsAbort, IsAgainst, IsHeld, IsVerdict, NoneAgainst}
 
 -- HELD: what the test says
@@ -40,7 +42,9 @@ pub held-test : (ds : List Decision) (k : ℕ) (d : Decision) (tid : Tid) → sl
 held-test [] k d tid here same = absurd (cc)
 held-test (x ∷ ds) zero d tid here same =
     let is : x ≡ d = cc in
-    ap (λ (y : Decision). tid_eq y.entry.tid tid || holds ds tid) is ∙ ap (λ t. tid_eq t tid || holds ds tid) same ∙ ap (λ b. b || holds ds tid) (tid_eq-same tid)
+    ap (λ (y : Decision). tid_eq y.entry.tid tid || holds ds tid) is
+    ∙ ap (λ t. tid_eq t tid || holds ds tid) same
+    ∙ ap (λ b. b || holds ds tid) (tid_eq-same tid)
 held-test (x ∷ ds) (suc k) d tid here same = or-true (tid_eq x.entry.tid tid) (held-test ds k d tid here same)
 
 held_in-test : (ds : List Decision) (slot : ℕ) (d : Decision) (tid : Tid) → decision_in ds slot ≡ Some d → d.entry.tid ≡ tid → holds ds tid ≡ true
@@ -102,7 +106,8 @@ module _ (pairs : List (ℕ × Class × Class)) (e : LogEntry) where
   abort_cases : (slot : ℕ) (d : Decision) → (abort_by pairs e slot d ≡ None) ⊎ Aborts slot d
   abort_cases slot d = on (is_unseen e slot d) refl
     where
-      conflicting : is_unseen e slot d ≡ true → (b : Bool) → transactions_conflict pairs e.touches d.entry.touches ≡ b → (abort_by pairs e slot d ≡ None) ⊎ Aborts slot d
+      conflicting : is_unseen e slot d ≡ true → (b : Bool) → transactions_conflict pairs e.touches d.entry.touches ≡ b
+          → (abort_by pairs e slot d ≡ None) ⊎ Aborts slot d
       conflicting unseen true c = inr (aborts slot d unseen c)
       conflicting unseen false c =
           inl (cond-true _ _ _ unseen ∙ ap (abort_on slot d.entry.tid) (missed (conflicts_with_some pairs d.entry.touches) e.touches c))

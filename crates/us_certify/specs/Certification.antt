@@ -1,5 +1,6 @@
 -- CERTIFICATION: what becomes of the entries of the ballot log, each after those before it. Slots count from 1.
-use Rattle.std.specs.Prelude.{◌≡◌, ℕ, zero as nought, suc, ◌+◌, List, [], ◌∷◌, ◌++◌, map, slice_get, Bool, true, false, not, ◌&&◌, Option, Some, None, if◌then◌else◌}
+use Rattle.std.specs.Prelude.{◌≡◌, ℕ, zero as nought, suc, ◌+◌, List, [], ◌∷◌, ◌++◌, map, slice_get}
+use Rattle.std.specs.Prelude.{Bool, true, false, not, ◌&&◌, Option, Some, None, if◌then◌else◌}
 use Rattle.std.specs.List.{list_any, position}
 use Rattle.us_kind.specs.Comparison.{tid_eq}
 use Rattle.us_kind.specs.declared.identity.Tid.{Tid}
@@ -98,6 +99,11 @@ verdict_in decisions slot = verdict_of (decision_in decisions slot)
 abbrev pub slot_of : Option ℕ → Option ℕ
 slot_of None = None
 slot_of (Some place) = Some (place + 1)
+
+-- by whatever conflicts the decisions were certified, this is the verdict that the entries alone have in the slot
+abbrev pub IsByEntries : List Decision → ℕ → Verdict → Type 0
+IsByEntries decisions slot v =
+    (pairs : List (ℕ × Class × Class)) → AreAsCertified pairs decisions → verdict_in (certified pairs (entries_of decisions)) slot ≡ Some v
 
 -- the first place, from 0, at which the transaction stands
 abbrev pub first_place : List Decision → Tid → Option ℕ

@@ -92,6 +92,9 @@ write item place amount = record { item = item; place = place; effect = CounterA
 abbrev pub taking : Item → ℕ → Write
 taking item place = record { item = item; place = place; effect = CounterAdd (negsuc 2) }
 
+abbrev pub reads_and_takes : List (Item × Class)
+reads_and_takes = (that_item, class.Read) ∷ (that_item, class.Take) ∷ (this_item, class.Take) ∷ []
+
 abbrev pub long : List LogEntry
 long =
     -- 1 commits
@@ -105,7 +108,7 @@ long =
     -- 5 commits: it gives to the one item, and takes from the other
     ∷ entry (tid 3 1 2) (snapshot 1 1000) ((this_item, class.Give) ∷ (that_item, class.Take) ∷ []) (write this_item 1 5 ∷ taking that_item 2 ∷ [])
     -- 6 is aborted by the least slot, 1, and by its third operation, though its second conflicts with slot 5
-    ∷ entry (tid 2 1 2) (snapshot 0 1000) ((that_item, class.Read) ∷ (that_item, class.Take) ∷ (this_item, class.Take) ∷ []) (taking that_item 2 ∷ taking this_item 3 ∷ [])
+    ∷ entry (tid 2 1 2) (snapshot 0 1000) reads_and_takes (taking that_item 2 ∷ taking this_item 3 ∷ [])
     -- 7 is a repeat of one that was aborted
     ∷ entry (tid 2 1 1) (snapshot 4 2000) (on_this class.Take) (taking this_item 1 ∷ [])
     -- 8 holds the first five slots' numbers, and is aborted by slot 1 all the same: of site 1 it holds less than that one saw

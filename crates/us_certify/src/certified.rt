@@ -2,7 +2,7 @@
 ghost use Rattle.std.specs.Prelude.{◌≡◌, ◌≤◌, ◌↔◌, ℕ, List, ◌+◌, ◌++◌, ◌∷◌, [], Some, None, false, IfOk, OnOk, OnErr, length};
 ghost use Rattle.us_base.specs.Shape.{IsShape};
 ghost use Rattle.us_value.specs.declared.operation.Class.{Class};
-ghost use Rattle.us_certify.specs.Certification.{AreAsCertified, certified, entries_of, holds, first_slot, verdict_after, verdict_in};
+ghost use Rattle.us_certify.specs.Certification.{AreAsCertified, IsByEntries, holds, first_slot, verdict_after, verdict_in};
 ghost use Rattle.us_certify.specs.Logs.{pushed, pages_from};
 
 use crate::Decision;
@@ -71,7 +71,7 @@ impl Certified {
         requires first { 1 ≤ slot }
         requires last { slot ≤ length self.now.decisions }
         ensures kept { verdict_in self.now.decisions slot ≡ Some result.now }
-        ensures certified { (pairs : List (ℕ × Class × Class)) → AreAsCertified pairs self.now.decisions → verdict_in (certified pairs (entries_of self.now.decisions)) slot ≡ Some result.now }
+        ensures certified { IsByEntries self.now.decisions slot result.now }
     {
         &self.decisions[(slot - 1) as usize].verdict
     }
