@@ -96,10 +96,6 @@ verdict_of (Some d) = Some d.verdict
 abbrev pub verdict_in : List Decision → ℕ → Option Verdict
 verdict_in decisions slot = verdict_of (decision_in decisions slot)
 
-abbrev pub slot_of : Option ℕ → Option ℕ
-slot_of None = None
-slot_of (Some place) = Some (place + 1)
-
 -- by whatever conflicts the decisions were certified, this is the verdict that the entries alone have in the slot
 abbrev pub IsByEntries : List Decision → ℕ → Verdict → Type 0
 IsByEntries decisions slot v =
@@ -108,6 +104,11 @@ IsByEntries decisions slot v =
 -- the first place, from 0, at which the transaction stands
 abbrev pub first_place : List Decision → Tid → Option ℕ
 first_place decisions tid = position (λ (d : Decision). tid_eq d.entry.tid tid) decisions
+
+-- the slot of the decision at this place
+abbrev pub slot_of : Option ℕ → Option ℕ
+slot_of None = None
+slot_of (Some place) = Some (place + 1)
 
 -- the first slot in which the transaction stands
 abbrev pub first_slot : List Decision → Tid → Option ℕ
