@@ -1,0 +1,4 @@
+pub mod Fronts
+pub mod Reasons
+pub mod Certifying
+pub mod Mutual

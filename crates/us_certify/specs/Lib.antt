@@ -1,0 +1,4 @@
+pub mod Certification
+pub mod Logs
+pub mod Laws
+pub mod Example
